@@ -4,7 +4,7 @@ use crate::expect::{holds_for, same};
 use mt_lists::{ListFault, ReadEnd, Row, Rows, SourceFault, Tap, laws, read_all, records};
 use mt_samples::devices::{Endless, Pieces};
 use mt_samples::without_couples::SPREADSHEET_EXPORT;
-use std::alloc::Global;
+use std::alloc::{AllocError, Global};
 use std::io::{ErrorKind, Read};
 use std::process::Abort;
 
@@ -79,6 +79,52 @@ fn spreadsheet_rows(rt: HostRuntime) {
     let fault = fault_of(rt.alloc(), b"\xEF\xBB\xBF\xEF\xBB\xBFmatch,1\n");
     same(&rt, fault, Some(ListFault::TwoMarks));
     laws::worked_inputs();
+}
+
+// How many fields the long line has. It is longer than a piece whose commas are counted at once.
+const FIELDS: u32 = 200;
+
+// A line of fields that are numbered from 0, with this at its start.
+fn long_line(alloc: Global, start: &str) -> Result<String, AllocError> {
+    let mut line = String::from_str(alloc, start)?;
+    for number in 1..FIELDS {
+        write!(line, ",f{number}")?;
+    }
+    Ok(line)
+}
+
+// Whether the field after as many others in the first row of an input is this one, or there is none.
+fn is_after(rows: &Rows<'_>, count: u32, field: Option<&[u8]>) -> bool {
+    let Some(row) = rows.iter().next() else {
+        return false;
+    };
+    let mut fields = row.fields();
+    fields.advance_by(count as usize);
+    fields.next() == field
+}
+
+// Whether each field of that line is the one after as many as its number, and none is after all.
+fn are_gone_past(alloc: Global, start: &str) -> Result<bool, AllocError> {
+    let line = long_line(alloc, start)?;
+    let Ok(rows) = records(alloc, line.as_bytes()) else {
+        return Ok(false);
+    };
+    for number in 0..FIELDS {
+        let mut name = String::new(alloc);
+        write!(name, "f{number}")?;
+        if !is_after(&rows, number, Some(name.as_bytes())) {
+            return Ok(false);
+        }
+    }
+    Ok(is_after(&rows, FIELDS, None) && is_after(&rows, FIELDS * 2, None))
+}
+
+// Fields of a plain line, and of one that `csv` reads, since it has a quote.
+#[test]
+fn fields_gone_past(rt: HostRuntime) {
+    for start in &["f0", "\"f0\""] {
+        holds_for(&rt, are_gone_past(rt.alloc(), start) == Ok(true), start);
+    }
 }
 
 // Reads twice: what each gives, how many reads are made, and how many of them fail.

@@ -1,5 +1,7 @@
 -- The fields of a line, one after the other, and the commas at its end.
-use Rattle.std.proofs.Common.{◌≡◌, ℕ, ◌+◌, ◌-◌, ◌<◌, ◌≤◌, List, [], ◌∷◌, ◌++◌, length, take, drop, get_or, true, false, ◌==◌, refl, sym, ap, ◌∙◌, inl, inr, append_assoc, arith, cond, length-append}
+use Rattle.std.proofs.Common.{◌≡◌, ℕ, zero, suc, ◌+◌, ◌-◌, ◌<◌, ◌≤◌, List, [], ◌∷◌, ◌++◌, length, take, drop, get_or, true, false, ◌==◌, refl, sym, ap, ◌∙◌, inl, inr, append_assoc, arith, cond, length-append}
+use Rattle.std.specs.Borrow.{Bor}
+use Rattle.std.specs.Prelude.{Option, None, Some, MatchOption}
 use Rattle.std.specs.List.{list_any, suffix_len, count_by}
 use Rattle.memchr.specs.Find.{is_byte}
 use Rattle.std.proofs.Math.Seq.{take-length}
@@ -7,7 +9,7 @@ use Rattle.std.proofs.lemmas.Bool.{cases_Bool, eqb-true, or_parts}
 use Rattle.std.proofs.lemmas.Bool.Decides.{nat_tests}
 use Rattle.std.proofs.lemmas.List.Recursion.{is_count_by}
 use Rattle.std.proofs.lemmas.List.Sums.{count_by-le-length, sum_by-take-drop}
-use Rattle.std.proofs.lemmas.List.{append-nil, drop_more, reverse-append, take-append-drop, take-append-le}
+use Rattle.std.proofs.lemmas.List.{append-nil, drop-drop, drop_more, reverse-append, take-append-drop, take-append-le}
 use Rattle.mt_lists.specs.Lines.{fields_of_line, fields_of_trimmed, is_comma, split_from}
 use Rattle.mt_lists.specs.Records.{is_empty_field, without_trailing_empty}
 use Rattle.mt_lists.proofs.LineFacts.{none_at_all, none_before}
@@ -185,3 +187,46 @@ commas-parts line front rest n first last = rw (first, last) (sum_by-take-drop (
 -- and no more than bytes
 pub commas-few : (line : List ℕ) → count_by (is_byte 44) line ≤ length line
 commas-few line = count_by-le-length (is_byte 44) line
+
+-- the fields after the first don't depend on what the first begins with
+drop-from : (f g line : List ℕ) (n : ℕ) → drop (suc n) (split_from f line) ≡ drop (suc n) (split_from g line)
+unfolding split_from
+drop-from f g [] n = refl
+drop-from f g (b ∷ rest) n =
+    elim (cases_Bool (b == 44)) [
+      | inl is ↦ rw is refl
+      | inr other ↦ rw other (drop-from (f ++ (b ∷ [])) (g ++ (b ∷ [])) rest n)
+    ]
+
+comma-parted : (b : ℕ) (rest : List ℕ) → count_by is_comma (b ∷ []) + count_by is_comma rest ≡ count_by is_comma (b ∷ rest)
+comma-parted b rest = sum_by-take-drop (λ c. cond (is_comma c) 1 0) (b ∷ rest) 1
+
+comma-more : (b : ℕ) (rest : List ℕ) → (b == 44) ≡ true → count_by is_comma (b ∷ rest) ≡ 1 + count_by is_comma rest
+comma-more b rest is = let one : count_by is_comma (b ∷ []) ≡ 1 = rw is refl in omega (arith, one, comma-parted b rest)
+
+comma-same : (b : ℕ) (rest : List ℕ) → (b == 44) ≡ false → count_by is_comma (b ∷ rest) ≡ count_by is_comma rest
+comma-same b rest other = let none : count_by is_comma (b ∷ []) ≡ 0 = rw other refl in omega (arith, none, comma-parted b rest)
+
+-- A piece is passed that has fewer commas than fields are to be passed. As many fields fewer are to be passed after it.
+drop-pieces : (f g piece after : List ℕ) (n m : ℕ) → n ≡ m + count_by is_comma piece → 0 < m → drop n (split_from f (piece ++ after)) ≡ drop m (split_from g after)
+unfolding split_from
+drop-pieces f g [] after n zero are some = absurd (omega (arith, some))
+drop-pieces f g [] after n (suc m) are some = let same : n ≡ suc m = omega (arith, are) in rw same (drop-from f g after m)
+drop-pieces f g (b ∷ rest) after zero m are some = absurd (omega (arith, are, some))
+drop-pieces f g (b ∷ rest) after (suc n) m are some =
+    elim (cases_Bool (b == 44)) [
+      | inl is ↦ let more = comma-more b rest is in rw is (drop-pieces [] g rest after n m (omega (arith, are, more)) some)
+      | inr other ↦ let same = comma-same b rest other in rw other (drop-pieces (f ++ (b ∷ [])) g rest after (suc n) m (omega (arith, are, same)) some)
+    ]
+
+pub piece-passed : (line piece after : List ℕ) (n m size : ℕ) → piece ≡ take size line → after ≡ drop size line → n ≡ m + count_by is_comma piece → 0 < m
+    → drop m (fields_of_line after) ≡ drop n (fields_of_line line)
+piece-passed line piece after n m size first last are some =
+    let whole : piece ++ after ≡ line = rw (first, last) (take-append-drop size line) in
+    sym (ap (λ (l : List ℕ). drop n (fields_of_line l)) (sym whole) ∙ drop-pieces [] [] piece after n m are some)
+
+-- fields that a call of `next` leaves
+pub next-drops : (all left next : List (List ℕ)) (k : ℕ) (o : Option (Bor (List ℕ))) → left ≡ drop k all
+    → MatchOption o ((left ≡ []) × (next ≡ [])) (λ x. left ≡ x.now ∷ next) → next ≡ drop (k + 1) all
+next-drops all left next k None is gives = gives.1 ∙ sym (ap (drop 1) gives.0) ∙ ap (drop 1) is ∙ drop-drop 1 k all
+next-drops all left next k (Some x) is gives = sym (ap (drop 1) gives) ∙ ap (drop 1) is ∙ drop-drop 1 k all

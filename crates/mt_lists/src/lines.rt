@@ -1,4 +1,4 @@
-ghost use Rattle.std.specs.Prelude.{◌≡◌, ◌+◌, ◌<◌, ◌≤◌, ◌^◌, [], ◌∷◌, false, true, length, IsFalse, MatchOption};
+ghost use Rattle.std.specs.Prelude.{◌≡◌, ◌+◌, ◌<◌, ◌≤◌, ◌^◌, [], ◌∷◌, drop, false, true, length, IsFalse, MatchOption};
 ghost use Rattle.std.specs.Iterator.{YieldsFirstRef, item_count};
 ghost use Rattle.std.specs.List.{count_by, list_any};
 ghost use Rattle.memchr.specs.Find.{IsFirstByte, is_byte};
@@ -138,6 +138,25 @@ fn commas(line: &[u8]) -> usize
     count + usize::from(commas_of(left))
 }
 
+// Goes past pieces of a line, as long as they have fewer commas than fields are to be passed. Gives what is left of the
+// line, and how many fields are then to be passed. The first of these may have lost bytes.
+fn past_pieces(line: &[u8], count: usize) -> (&[u8], usize)
+    ensures { drop result.1 (fields_of_line result.0.now) ≡ drop count (fields_of_line line.now) }
+{
+    let mut rest = line;
+    let mut left = count;
+    while rest.len() > PIECE {
+        let (piece, after) = rest.split_at(PIECE);
+        let passed = usize::from(commas_of(piece));
+        if passed >= left {
+            return (rest, left);
+        }
+        rest = after;
+        left -= passed;
+    }
+    (rest, left)
+}
+
 // The place of the first comma of a line. Most fields have a few bytes, and a search by vectors begins slowly.
 fn first_comma(line: &[u8]) -> Option<usize>
     ensures { IsFirstByte (is_byte 44) line.now result }
@@ -176,6 +195,20 @@ impl<'t> LineFields<'t> {
         match self.rest {
             Some(line) => commas(line) + 1,
             None => 0,
+        }
+    }
+
+    // Goes past some of `count` fields, and gives how many of them are then to be passed.
+    pub(crate) fn pass_pieces(&mut self, count: usize) -> usize
+        ensures { drop result (line_fields_left self.new) ≡ drop count (line_fields_left self.old) }
+    {
+        match self.rest {
+            Some(line) => {
+                let (rest, left) = past_pieces(line, count);
+                self.rest = Some(rest);
+                left
+            }
+            None => count,
         }
     }
 }

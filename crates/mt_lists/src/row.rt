@@ -1,4 +1,4 @@
-ghost use Rattle.std.specs.Prelude.{◌≡◌, ◌==◌, length};
+ghost use Rattle.std.specs.Prelude.{◌≡◌, ◌==◌, drop, length};
 ghost use Rattle.std.specs.Iterator.{YieldsFirstRef, item_count};
 
 use crate::lines::LineFields;
@@ -85,6 +85,26 @@ impl<'r> Fields<'r> {
         match &self.source {
             FieldsSource::Line(fields) => fields.len(),
             FieldsSource::Read(fields) => fields.len(),
+        }
+    }
+
+    // Goes past some of `count` fields, and gives how many of them are then to be passed.
+    fn pass_pieces(&mut self, count: usize) -> usize
+        ensures { drop result (fields_left self.new) ≡ drop count (fields_left self.old) }
+    {
+        match &mut self.source {
+            FieldsSource::Line(fields) => fields.pass_pieces(count),
+            FieldsSource::Read(_) => count,
+        }
+    }
+
+    /// Goes past as many fields as `count`, or past all that are left.
+    pub fn advance_by(&mut self, count: usize)
+        ensures { fields_left self.new ≡ drop count (fields_left self.old) }
+    {
+        let left = self.pass_pieces(count);
+        for _past in 0..left {
+            self.next();
         }
     }
 }

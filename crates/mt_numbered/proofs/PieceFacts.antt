@@ -31,12 +31,6 @@ module _ {X : Type 0} where
   take-first zero left x rest is some = absurd (omega (arith, some))
   take-first (suc k) left x rest is some = let one : suc k - 1 ≡ k = omega arith in rw (is, one) refl
 
--- fields that a call of `next` leaves
-pub next-drops : (all left next : List Bytes) (k : ℕ) (o : Option (Bor Bytes)) → left ≡ drop k all
-    → MatchOption o ((left ≡ []) × (next ≡ [])) (λ x. left ≡ x.now ∷ next) → next ≡ drop (k + 1) all
-next-drops all left next k None is gives = gives.1 ∙ sym (ap (drop 1) gives.0) ∙ ap (drop 1) is ∙ drop-drop 1 k all
-next-drops all left next k (Some x) is gives = sym (ap (drop 1) gives) ∙ ap (drop 1) is ∙ drop-drop 1 k all
-
 -- a list with a piece more
 pub one_piece-more : (pieces : List Piece) (piece : Piece) (left all : List Bytes) → piece_ids piece ≡ take piece.count left
     → flat_map piece_ids pieces ++ left ≡ all → flat_map piece_ids (pieces ++ piece ∷ []) ++ drop piece.count left ≡ all

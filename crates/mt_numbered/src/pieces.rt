@@ -1,6 +1,6 @@
 //! Long lists of ids by numbers, if there are few of them. Several threads look up the ids in pieces. Then one thread
 //! numbers them in order, and sees whether one stands twice.
-ghost use Rattle.std.specs.Prelude.{◌≡◌, ◌<◌, ◌^◌, true, drop, flat_map, length, All, IfOk};
+ghost use Rattle.std.specs.Prelude.{◌≡◌, ◌<◌, ◌^◌, true, flat_map, length, All, IfOk};
 ghost use Rattle.mt_lists.specs.Rows.{fields_left};
 ghost use Rattle.mt_id_lists.specs.Met.{IsNoneMet};
 ghost use Rattle.mt_id_lists.specs.Reading.{ids_read, ids_stand, ReadsAll};
@@ -99,15 +99,6 @@ impl<'p, 'n, 'a, T: Number + Send + Sync> ListReader<Piece<'p>, ()> for PlaceRea
     }
 }
 
-/// Goes past as many fields as `count`, or past all.
-fn skip(fields: &mut Fields<'_>, count: usize)
-    ensures { fields_left fields.new ≡ drop count (fields_left fields.old) }
-{
-    for _past in 0..count {
-        fields.next();
-    }
-}
-
 /// A list in pieces.
 fn pieces_of<'a>(alloc: Global, list: Fields<'a>) -> Result<Vec<Piece<'a>>, AllocError>
     ensures { IfOk result (λ pieces. flat_map piece_ids pieces.items ≡ fields_left list.entry) }
@@ -121,7 +112,7 @@ fn pieces_of<'a>(alloc: Global, list: Fields<'a>) -> Result<Vec<Piece<'a>>, Allo
             fields: rest,
             count,
         })?;
-        skip(&mut rest, count);
+        rest.advance_by(count);
         left -= count;
     }
     Ok(pieces)

@@ -20,9 +20,9 @@ loop-left-preserved c =
     let piece : Piece = record { fields = c.loop-left.rest; count = c.min-count.result } in
     let left = fields_left c.loop-left.rest in
     record {
-      left = ap (λ (k : ℕ). k - piece.count) c.loop-left.invariant.left ∙ sym (ap length c.skip.ensures ∙ length-drop piece.count left);
-      whole = ap (λ (l : List Piece). flat_map piece_ids l ++ fields_left c.skip.new.fields) c.in_ok-push.ensures.items
-          ∙ ap (λ (l : List Bytes). flat_map piece_ids (pieces ++ piece ∷ []) ++ l) c.skip.ensures
+      left = ap (λ (k : ℕ). k - piece.count) c.loop-left.invariant.left ∙ sym (ap length c.advance_by.ensures ∙ length-drop piece.count left);
+      whole = ap (λ (l : List Piece). flat_map piece_ids l ++ fields_left c.advance_by.new.self) c.in_ok-push.ensures.items
+          ∙ ap (λ (l : List Bytes). flat_map piece_ids (pieces ++ piece ∷ []) ++ l) c.advance_by.ensures
           ∙ one_piece-more pieces piece left (fields_left c.args.list) refl c.loop-left.invariant.whole;
     }
 
