@@ -1,6 +1,6 @@
-//! What the programs over files share: their arguments and the files that these name, the line for want of memory, the
-//! statuses of the codes of files, and why a file couldn't be opened. They also share what is written for words that ask
-//! for no run.
+//! What the programs over files share: their arguments, the files that these name, and the line for want of memory.
+//! They also share the statuses of the codes of files, and why a file couldn't be opened. The last part is what is
+//! written for words that ask for no run.
 #![tactic(auto)]
 
 mod arguments;
