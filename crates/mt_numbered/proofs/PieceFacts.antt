@@ -1,10 +1,9 @@
 -- Lists that are looked up in pieces. A list is its pieces one after another, so its places are those of its pieces. A list
 -- whose places are known stands if no place is met twice.
 use Rattle.std.proofs.Common.{◌≡◌, ℕ, zero, suc, ◌+◌, ◌-◌, ◌<◌, Bool, true, false, not, ◌&&◌, List, [], ◌∷◌, ◌++◌, length, map, take, drop, get_or, set, Option, Some, None, refl, ap, sym, subst, ◌∙◌, arith, if◌then◌else◌}
-use Rattle.std.specs.Prelude.{filter_map, flat_map, option_to_list, MatchOption, All}
-use Rattle.std.specs.Borrow.{Bor}
+use Rattle.std.specs.Prelude.{filter_map, flat_map, option_to_list, All}
 use Rattle.std.specs.List.{list_all, cons_option}
-use Rattle.std.proofs.lemmas.List.{append_assoc, append-nil, drop-drop, take-append-drop, take_more, map-append}
+use Rattle.std.proofs.lemmas.List.{append_assoc, append-nil, take-append-drop, take_more, map-append}
 use Rattle.std.proofs.lemmas.List.Folds.{list_all-append}
 use Rattle.std.proofs.lemmas.Grind.{flat_map-append}
 use Rattle.mt_terms.proofs.IdFacts.{number_below}

@@ -37,7 +37,7 @@ use Rattle.mt_id_lists.specs.Numbering.{Numbering, number_by, numbers_by}
 use Rattle.mt_id_lists.specs.Reading.{ids_read, ids_stand, ReadsAll}
 use Rattle.mt_numbering.specs.Registered.{is_registered}
 use Rattle.mt_numbering.specs.Withdrawals.{are_once, are_registered, stays_after, AreWithdrawn}
-use Rattle.mt_numbering.specs.Sides.{applicants_stand, programs_stand, GivesByApplicants, GivesByPrograms, IsTableOf}
+use Rattle.mt_numbering.specs.Sides.{applicants_stand, programs_stand, GivesByApplicants, GivesByPrograms}
 use Rattle.mt_numbering.specs.declared.entries.ByApplicants.{ByApplicants}
 use Rattle.mt_numbering.specs.declared.entries.ByPrograms.{ByPrograms}
 use Rattle.mt_numbering.proofs.EntryFacts.{rankings_stand, choices_stand, couples_stand}
@@ -446,10 +446,6 @@ table_found names all (Some table) ids same found differ is =
 
 pub table_missing : (names all : List Bytes) (o : Option (List Bytes)) → names ≡ all → is_some o ≡ all_differ bytes_eq names → o ≡ None → all_differ bytes_eq all ≡ false
 table_missing names all o same differ is = ap (all_differ bytes_eq) (sym same) ∙ sym differ ∙ ap is_some is
-
-pub table_of : (names : List Bytes) (o : Option (List Bytes)) → IfSome o (λ table. table ≡ names) → is_some o ≡ all_differ bytes_eq names → IsTableOf names o
-table_of names None found differ = sym differ
-table_of names (Some table) found differ = (sym differ, found)
 
 -- there is a new number, or none, for each id
 pub long_programs : (stays : Record → Bool) (rs : List Record) (ids : List Bytes) (numbers : List (Option ℕ)) → ids ≡ ids_of OfProgram rs

@@ -1,21 +1,15 @@
 -- Rank tables in parts, each of a block of applicants.
-use Rattle.std.proofs.Common.{◌≡◌, ℕ, zero, suc, ◌+◌, ◌-◌, ◌*◌, ◌<◌, ◌≤◌, ◌^◌, ◌++◌, List, [], ◌∷◌, map, length, get_or, min, sum, drop, slice_range, sym, ap, subst, ◌∙◌, inl, inr, arith}
-use Rattle.std.specs.Global.{Global}
-use Rattle.std.specs.List.{range_with_len}
-use Rattle.std.specs.Prelude.{Result, Ok, Err, IfOk, MatchResult, Vec}
-use Rattle.std.specs.declared.alloc.AllocError.{AllocError}
+use Rattle.std.proofs.Common.{◌≡◌, ℕ, ◌+◌, ◌-◌, ◌*◌, ◌<◌, ◌≤◌, ◌^◌, List, [], map, length, get_or, min, sum, drop, slice_range, ap, ◌∙◌, inl, inr, arith}
 use Rattle.std.proofs.lemmas.Bool.{cases_lt}
 use Rattle.std.proofs.lemmas.Bool.Decides.{nat_tests}
-use Rattle.std.proofs.Math.Seq.{get_or-append_seam}
-use Rattle.std.proofs.lemmas.List.{get_or_append_left, get_or_past, get_or-take, get_or-drop, length-append}
+use Rattle.std.proofs.lemmas.List.{get_or_past, get_or-take, get_or-drop}
 use Rattle.std.proofs.lemmas.List.FromFn.{get_or-map-range_with_len, length-map-range_with_len, fill_by_all}
 use Rattle.std.proofs.lemmas.List.Sums.{sum_by-take-le, sum_by-take-drop}
-use Rattle.rayon.specs.Numbers.{nat_range}
 use Rattle.mt_terms.specs.Lists.{below}
 use Rattle.mt_terms.specs.Market.{Market, applicants, list_of}
 use Rattle.mt_terms.specs.WellFormed.{IsWellFormed}
 use Rattle.mt_ranks.specs.Entries.{own_entries, rankings_of, entries_among, times_listed, all_times, ListedTimes, AscendFrom}
-use Rattle.mt_ranks.specs.Parts.{block_first, block_size, block_of, place_of, part_of, live_among, row_among, IsPart, AreFirstParts, AreParts, HaveApplicant}
+use Rattle.mt_ranks.specs.Parts.{block_first, block_size, block_of, place_of, part_of, live_among, row_among, IsPart, AreParts, HaveApplicant}
 use Rattle.mt_ranks.specs.Rows.{Filling, row_of}
 use Rattle.mt_ranks.specs.declared.entries.Live.{Live}
 use Rattle.mt_ranks.specs.declared.tables.Part.{Part}
@@ -51,19 +45,6 @@ block_ascends m rows from size k w h =
       | inl within ↦ rw (h, get_or-map-range_with_len own 0 size k k [] within (omega arith)) (entries_ascend (rankings_of m) (from + k) (rankings_distinct m w))
       | inr past ↦ rw (h, get_or_past (map own (below size)) k [] (omega (arith, length-map-range_with_len own 0 size))) tt
     ]
-
--- a part after the first ones
-pub part_pushed : (m : Market) (size count : ℕ) (parts : List Part) (part : Part) → AreFirstParts m size count parts → IsPart m size count part → AreFirstParts m size (count + 1) (parts ++ part ∷ [])
-part_pushed m size count parts part are is =
-    record {
-      len = omega (arith, length-append parts (part ∷ []), are.len);
-      each = λ number below. elim (cases_lt number count) as (λ o. IsPart m size number (part_of (parts ++ part ∷ []) number)) [
-        | inl within ↦ rw (get_or_append_left parts (part ∷ []) (part_of [] 0) number (omega (arith, are.len))) (are.each number within)
-        | inr past ↦
-            let same : number ≡ count = omega arith in
-            rw (same, ← are.len, get_or-append_seam parts part [] (part_of [] 0)) (rw are.len is)
-      ];
-    }
 
 -- An applicant's block is one of the four, begins at the applicant or before it, and ends after it.
 pub block_below : (size a : ℕ) → block_of size a < 4
