@@ -3,8 +3,8 @@ ghost use Rattle.mt_ranks.specs.Parts.{block_of};
 
 use mt_terms::AppNo;
 
-/// How many blocks the applicants have. A thread of its own makes the tables of each block, and reads the lists of
-/// all programs for it. More blocks would mean more reads.
+/// How many blocks the applicants have. A thread makes the tables of one block, and reads the lists of all programs for
+/// it. More blocks would mean more reads.
 pub(crate) const BLOCKS: usize = 4;
 
 /// How many of all `applicants` applicants each block has, but for the last blocks. With fewer processors than blocks,

@@ -188,7 +188,15 @@ fn all_parts<R: Threads + Sync>(
 {
     let times = listed(alloc, roster)?;
     if are_many(&times) && current_num_threads(rt) > 1 {
-        parts_below(rt, alloc, roster, &times, size, BLOCKS)
+        // Linux may keep the first thread that a young process starts on the processor of its starter, which waits for
+        // it there. So the first one has nothing to do.
+        let nothing = || {};
+        let parts = || -> Result<Vec<Part>, AllocError>
+            requires { (times.items ≡ all_times roster.now.market) × (sum times.items < 2 ^ 64) }
+            ensures { IfOk result (λ v. AreParts roster.entry.now.market size v.items) }
+        { parts_below(rt, alloc, roster, &times, size, BLOCKS) };
+        let (_, parts) = join(rt, nothing, parts);
+        parts
     } else {
         parts_in_turn(alloc, roster, &times, size)
     }
