@@ -55,3 +55,28 @@ module _ (rules : Rules) where
       by : (o : Option (List Record)) → option_and_then market (option_map (λ rs. front ++ rs) o) ≡ None
       by None = refl
       by (Some rest) = rw (too_many rules front rest many) refl
+
+-- the rows that have a field, of rows and others after them
+with_fields-append : (rows more : List (List Bytes)) → with_fields (rows ++ more) ≡ with_fields rows ++ with_fields more
+with_fields-append [] more = refl
+with_fields-append ([] ∷ rows) more = with_fields-append rows more
+with_fields-append ((word ∷ fields) ∷ rows) more = ap (λ (all : List (List Bytes)). (word ∷ fields) ∷ all) (with_fields-append rows more)
+
+-- and their records
+drafts-append : (rules : Rules) (rows more : List (List Bytes)) (rs : List Record) → drafts rules more ≡ Some rs
+    → drafts rules (rows ++ more) ≡ option_map (λ qs. qs ++ rs) (drafts rules rows)
+drafts-append rules [] more rs are = are
+drafts-append rules (row ∷ rows) more rs are =
+    ap (λ o. option_and_then (λ r. option_map (λ qs. r ∷ qs) o) (draft rules row)) (drafts-append rules rows more rs are)
+    ∙ moved (draft rules row) (drafts rules rows)
+  where
+    moved : (o : Option Record) (all : Option (List Record))
+        → option_and_then (λ r. option_map (λ qs. r ∷ qs) (option_map (λ qs. qs ++ rs) all)) o ≡ option_map (λ qs. qs ++ rs) (option_and_then (λ r. option_map (λ qs. r ∷ qs) all) o)
+    moved None all = refl
+    moved (Some r) None = refl
+    moved (Some r) (Some qs) = refl
+
+pub drafts_of_all : (rules : Rules) (rows more : List (List Bytes)) (qs rs : List Record) → drafts rules (with_fields rows) ≡ Some qs → drafts rules (with_fields more) ≡ Some rs
+    → drafts rules (with_fields (rows ++ more)) ≡ Some (qs ++ rs)
+drafts_of_all rules rows more qs rs these those =
+    ap (drafts rules) (with_fields-append rows more) ∙ drafts-append rules (with_fields rows) (with_fields more) rs those ∙ ap (option_map (λ ps. ps ++ rs)) these

@@ -1,5 +1,5 @@
 -- The records of rows before it is known whether one has a fault beside the others, or in its list.
-use Rattle.std.specs.Prelude.{◌≡◌, ◌-◌, ◌^◌, false, min, List, [], ◌∷◌, None, Some}
+use Rattle.std.specs.Prelude.{◌≡◌, ◌-◌, ◌^◌, false, min, List, [], ◌∷◌, ◌++◌, None, Some}
 use Rattle.mt_draft_laws.specs.Faultless.{drafts, faultless_market}
 use Rattle.mt_terms.specs.Registration.Ids.{Bytes}
 use Rattle.mt_terms.specs.Registration.Passes.{are_too_many}
@@ -33,3 +33,8 @@ pub record AreDraftsOf (rules : Rules) (rows : List (List Bytes)) (d : Drafts) :
   pub are : AreDrafts d
   pub records : drafts rules (with_fields rows) ≡ Some (drafted d)
   pub few : are_too_many rules.limits (drafted d) ≡ false
+
+-- The records are those of these rows and of others after them.
+pub record AreOfBoth (rules : Rules) (first second : List (List Bytes)) (d : Drafts) : Type 0 where
+  pub are : AreDrafts d
+  pub records : drafts rules (with_fields (first ++ second)) ≡ Some (drafted d)

@@ -27,3 +27,10 @@ pub record AddsNames (old new : NameLists) (r : Record) : Type 0 where
   pub applicants : new.applicants ≡ old.applicants ++ applicants_of r
   pub couples : new.couples ≡ old.couples ++ option_to_list (own_id OfCouple r)
   pub singles : new.singles.items ≡ old.singles.items ++ singles_of r
+
+-- The ids of others are added at the end.
+pub record AddsAllNames (old new others : NameLists) : Type 0 where
+  pub programs : new.programs ≡ old.programs ++ others.programs
+  pub applicants : new.applicants ≡ old.applicants ++ others.applicants
+  pub couples : new.couples ≡ old.couples ++ others.couples
+  pub singles : new.singles.items ≡ old.singles.items ++ others.singles.items

@@ -1,7 +1,7 @@
 //! The ids of records, side by side.
-ghost use Rattle.std.specs.Prelude.{[], OnOk, IfOk};
+ghost use Rattle.std.specs.Prelude.{◌≡◌, ◌++◌, [], OnOk, IfOk};
 ghost use Rattle.mt_records.specs.Records.{record_seen, all_seen};
-ghost use Rattle.mt_drafts.specs.Names.{AreNames, AddsNames};
+ghost use Rattle.mt_drafts.specs.Names.{AreNames, AddsAllNames, AddsNames};
 
 use mt_market::FlatLists;
 use mt_records::Record;
@@ -16,6 +16,16 @@ pub struct NameLists {
     pub couples: FlatLists<u8>,
     /// For each applicant whether it is a single.
     pub singles: Vec<bool>,
+}
+
+/// Adds other ids at the end.
+fn append(ids: &mut FlatLists<u8>, others: &FlatLists<u8>) -> Result<(), AllocError>
+    ensures { OnOk result (ids.new ≡ ids.old ++ others.now) }
+{
+    for number in 0..others.len() {
+        ids.push_list(others.list(number))?;
+    }
+    Ok(())
 }
 
 impl NameLists {
@@ -52,6 +62,16 @@ impl NameLists {
             Record::Withdraw { .. } => {}
         }
         Ok(())
+    }
+
+    /// Adds the ids that other records register.
+    pub(crate) fn append(&mut self, others: &NameLists) -> Result<(), AllocError>
+        ensures { OnOk result (AddsAllNames self.old self.new others.now) }
+    {
+        append(&mut self.programs, &others.programs)?;
+        append(&mut self.applicants, &others.applicants)?;
+        append(&mut self.couples, &others.couples)?;
+        self.singles.extend_from_slice(&others.singles)
     }
 
     /// The ids of the programs, the applicants and the couples of records.

@@ -5,7 +5,8 @@ use Rattle.std.proofs.Math.Seq.{take-length}
 use Rattle.std.proofs.lemmas.Bool.{cases_Bool, false_from_ne_true, or_parts}
 use Rattle.std.proofs.lemmas.Bool.Decides.{nat_tests}
 use Rattle.std.proofs.lemmas.List.Folds.{list_any-append}
-use Rattle.std.proofs.lemmas.List.{append-nil, drop_more, length-map, take-append-drop}
+use Rattle.std.proofs.lemmas.List.{append-nil, drop_more, length-map, map-append, take-append-drop, take_more}
+use Rattle.csv.specs.declared.parser.State.{State}
 use Rattle.csv.specs.declared.parser.State.TheVariants as st
 use Rattle.csv.specs.Reading.{default_config, records}
 use Rattle.mt_lists.specs.Lines.{NextLine, ends_line, fields_of_line, is_quote, record_of_line, split_from}
@@ -207,3 +208,76 @@ pub none_after : (p : ℕ → Bool) (n : ℕ) (text rest : List ℕ) → rest �
 none_after p n text rest is none =
     let parts = sym (list_any-append p (take n text) (drop n text)) ∙ ap (list_any p) (take-append-drop n text) ∙ none in
     ap (list_any p) is ∙ (or_parts _ _ parts).1
+
+-- and none of its start
+pub none_front : (p : ℕ → Bool) (n : ℕ) (text front : List ℕ) → front ≡ take n text → list_any p text ≡ false
+    → list_any p front ≡ false
+none_front p n text front is none =
+    let parts = sym (list_any-append p (take n text) (drop n text)) ∙ ap (list_any p) (take-append-drop n text) ∙ none in
+    ap (list_any p) is ∙ (or_parts _ _ parts).0
+
+-- a text that goes on after a line feed
+module _ (tail : List ℕ) where
+  -- its records are those up to the line feed, and those after it
+  abbrev Goes : State → List (List ℕ) → List ℕ → List ℕ → Type 0
+  Goes s fields field xs = read_from s fields field (xs ++ (10 ∷ tail)) ≡ read_from s fields field (xs ++ (10 ∷ [])) ++ read_from st.StartRecord [] [] tail
+
+  -- with more records after the line feed
+  abbrev and_more : List (List (List ℕ)) → List (List (List ℕ))
+  and_more rows = rows ++ read_from st.StartRecord [] [] tail
+
+  -- a field that has begun, and the start of a record
+  goes : (xs : List ℕ) → list_any is_quote (xs ++ (10 ∷ tail)) ≡ false → list_any is_quote (xs ++ (10 ∷ [])) ≡ false
+      → ((fields : List (List ℕ)) (field : List ℕ) → Goes st.InField fields field xs) × Goes st.StartRecord [] [] xs
+  unfolding read_from
+  goes [] all front = (
+    λ fields field. record_ends fields field 10 tail refl refl ∙ ap and_more (sym (record_ends fields field 10 [] refl refl)),
+    blank_read 10 tail refl ∙ ap and_more (sym (blank_read 10 [] refl)),
+  )
+  goes (c ∷ rest) all front =
+      let more = goes rest (or_parts _ _ all).1 (or_parts _ _ front).1 in
+      let field_goes : (fields : List (List ℕ)) (field : List ℕ) → Goes st.InField fields field (c ∷ rest) =
+      λ fields field. elim (cases_Bool (c == 44)) [
+        | inl comma ↦
+            comma_read fields field c (rest ++ (10 ∷ tail)) comma
+            ∙ field_starts (fields ++ (field ∷ [])) [] (rest ++ (10 ∷ tail)) (or_parts _ _ all).1
+            ∙ more.0 (fields ++ (field ∷ [])) []
+            ∙ ap and_more (sym (comma_read fields field c (rest ++ (10 ∷ [])) comma ∙ field_starts (fields ++ (field ∷ [])) [] (rest ++ (10 ∷ [])) (or_parts _ _ front).1))
+        | inr other ↦ elim (cases_Bool (ends_line c)) [
+          | inl ends ↦
+              record_ends fields field c (rest ++ (10 ∷ tail)) ends other
+              ∙ ap (λ (rows : List (List (List ℕ))). (fields ++ (field ∷ [])) ∷ rows) more.1
+              ∙ ap and_more (sym (record_ends fields field c (rest ++ (10 ∷ [])) ends other))
+          | inr on ↦
+              byte_read fields field c (rest ++ (10 ∷ tail)) other on
+              ∙ more.0 fields (field ++ (c ∷ []))
+              ∙ ap and_more (sym (byte_read fields field c (rest ++ (10 ∷ [])) other on))
+        ]
+      ] in
+      let record_goes : Goes st.StartRecord [] [] (c ∷ rest) =
+      elim (cases_Bool (ends_line c)) [
+        | inl ends ↦ blank_read c (rest ++ (10 ∷ tail)) ends ∙ more.1 ∙ ap and_more (sym (blank_read c (rest ++ (10 ∷ [])) ends))
+        | inr on ↦
+            record_starts c (rest ++ (10 ∷ tail)) (or_parts _ _ all).0 on
+            ∙ field_goes [] []
+            ∙ ap and_more (sym (record_starts c (rest ++ (10 ∷ [])) (or_parts _ _ all).0 on))
+      ] in
+      (field_goes, record_goes)
+
+-- the rows of a text are those up to a line feed, and those after it
+pub rows-parts : (text : List ℕ) (at : ℕ) → at < length text → list_any is_quote text ≡ false → get_or text at 0 ≡ 10
+    → rows_of text ≡ rows_of (take (at + 1) text) ++ rows_of (drop (at + 1) text)
+unfolding rows_of
+rows-parts text at within unquoted feed =
+    let front = take at text in
+    let tail = drop (at + 1) text in
+    let whole : front ++ (10 ∷ tail) ≡ text =
+    ap (λ (b : ℕ). front ++ (b ∷ tail)) (sym feed) ∙ ap (λ (x : List ℕ). front ++ x) (sym (drop_more text at 0 within)) ∙ take-append-drop at text in
+    let start : take (at + 1) text ≡ front ++ (10 ∷ []) = take_more text at 0 within ∙ ap (λ (b : ℕ). front ++ (b ∷ [])) feed in
+    let none : list_any is_quote (front ++ (10 ∷ [])) ≡ false = none_front is_quote (at + 1) text _ (sym start) unquoted in
+    let parts : records default_config text ≡ records default_config (take (at + 1) text) ++ records default_config tail =
+    ap (records default_config) (sym whole) ∙ records-read_from (front ++ (10 ∷ tail))
+    ∙ (goes tail front (ap (list_any is_quote) whole ∙ unquoted) none).1
+    ∙ ap (λ (rows : List (List (List ℕ))). rows ++ read_from st.StartRecord [] [] tail) (sym (ap (records default_config) start ∙ records-read_from (front ++ (10 ∷ []))))
+    ∙ ap (λ (rows : List (List (List ℕ))). records default_config (take (at + 1) text) ++ rows) (sym (records-read_from tail)) in
+    ap (map without_trailing_empty) parts ∙ map-append without_trailing_empty (records default_config (take (at + 1) text)) (records default_config tail)

@@ -1,4 +1,4 @@
-ghost use Rattle.std.specs.Prelude.{◌≡◌, ◌+◌, ◌<◌, ◌≤◌, ◌^◌, [], ◌∷◌, drop, false, true, length, IsFalse, MatchOption};
+ghost use Rattle.std.specs.Prelude.{◌≡◌, ◌+◌, ◌<◌, ◌≤◌, ◌^◌, [], ◌∷◌, ◌++◌, drop, false, true, length, IfSome, IsFalse, MatchOption};
 ghost use Rattle.std.specs.Iterator.{YieldsFirstRef, item_count};
 ghost use Rattle.std.specs.List.{count_by, list_any};
 ghost use Rattle.memchr.specs.Find.{IsFirstByte, is_byte};
@@ -78,6 +78,29 @@ impl<'t> Lines<'t> {
                 (line, Lines { text, may_return })
             }
         }
+    }
+
+    // How many bytes the text has.
+    pub(crate) fn len(self) -> usize
+        ensures { result ≡ length self.entry.text.now }
+    {
+        self.text.len()
+    }
+
+    // The lines up to the first line feed in the second half of the text, and those after it, if there is one.
+    pub(crate) fn halves(self) -> Option<(Lines<'t>, Lines<'t>)>
+        ensures { IfSome result (λ h. rows_of self.entry.text.now ≡ rows_of h.0.text.now ++ rows_of h.1.text.now) }
+    {
+        let Lines { text, may_return } = self;
+        let half = text.len() / 2;
+        let (_, back) = text.split_at(half);
+        let at = memchr(b'\n', back)?;
+        let (front, text) = text.split_at(half + at + 1);
+        let front = Lines {
+            text: front,
+            may_return,
+        };
+        Some((front, Lines { text, may_return }))
     }
 
     // Where the first line ends.

@@ -1,4 +1,4 @@
-ghost use Rattle.std.specs.Prelude.{◌≡◌, ◌≤◌, ◌^◌, length};
+ghost use Rattle.std.specs.Prelude.{◌≡◌, ◌≤◌, ◌^◌, ◌++◌, length, IfSome};
 ghost use Rattle.std.specs.Iterator.{YieldsFirst, item_count};
 
 use crate::lines::Lines;
@@ -72,6 +72,33 @@ pub struct RowsIter<'r> {
 pub(crate) enum RowsRest<'r> {
     Lines(Lines<'r>),
     Read(&'r [FlatLists<u8>]),
+}
+
+impl<'r> RowsIter<'r> {
+    ghost use Rattle.mt_lists.specs.Rows.{rows_left};
+
+    /// The first rows and the others, if they are the lines of a text with at least `bytes` bytes. Each part has about half
+    /// of these. A text whose second half has no line feed has no parts.
+    pub fn halves(self, bytes: usize) -> Option<(RowsIter<'r>, RowsIter<'r>)>
+        ensures { IfSome result (λ h. rows_left self.entry ≡ rows_left h.0 ++ rows_left h.1) }
+    {
+        match self.rest {
+            RowsRest::Lines(lines) => {
+                if lines.len() < bytes {
+                    return None;
+                }
+                let (front, back) = lines.halves()?;
+                let front = RowsIter {
+                    rest: RowsRest::Lines(front),
+                };
+                let back = RowsIter {
+                    rest: RowsRest::Lines(back),
+                };
+                Some((front, back))
+            }
+            RowsRest::Read(_) => None,
+        }
+    }
 }
 
 impl<'r> Iterator for RowsIter<'r> {

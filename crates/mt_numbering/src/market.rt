@@ -139,7 +139,7 @@ pub fn faultless_market<R: Threads + Sync>(
     ensures { IfOk result
         (λ found. found ≡ faultless_market rules.now (with_fields (rows_left rows.entry))) }
 {
-    match drafts_of(alloc, rules, rows)? {
+    match drafts_of(rt, alloc, rules, rows)? {
         Some(drafts) => market_of_drafts(rt, alloc, rules, drafts),
         None => Ok(None),
     }

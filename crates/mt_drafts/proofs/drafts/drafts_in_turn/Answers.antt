@@ -7,7 +7,7 @@ use Rattle.mt_terms.specs.Registration.Records.{Rules}
 use Rattle.mt_records.specs.Records.{record_seen}
 use Rattle.mt_drafts.specs.Drafts.{drafted}
 use Rattle.mt_drafts.proofs.DraftFacts.{goes_on, too_many_drafts}
-use Rattle.mt_drafts.proofs.drafts.drafts_of.Goals as goal
+use Rattle.mt_drafts.proofs.drafts.drafts_in_turn.Goals as goal
 
 pub returns-then-are_too_many : goal.returns-then-are_too_many
 returns-then-are_too_many c =

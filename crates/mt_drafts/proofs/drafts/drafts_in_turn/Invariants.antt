@@ -3,7 +3,7 @@ use Rattle.mt_lists.specs.Rows.{rows_left}
 use Rattle.mt_terms.specs.Registration.Passes.{are_too_many}
 use Rattle.mt_drafts.specs.Drafts.{drafted, AreDrafts}
 use Rattle.mt_drafts.proofs.DraftFacts.{GoesOn}
-use Rattle.mt_drafts.proofs.drafts.drafts_of.Given as goal
+use Rattle.mt_drafts.proofs.drafts.drafts_in_turn.Given as goal
 
 abbrev pub invariant-loop-row : goal.invariant-loop-row
 invariant-loop-row l = record {
