@@ -1,7 +1,9 @@
 //! Bytes to records: reads that fail, limits, and the rows of a file as a spreadsheet writes it.
 
 use crate::expect::{holds_for, same};
-use mt_lists::{ListFault, ReadEnd, Row, Rows, SourceFault, Tap, laws, read_all, records};
+use mt_lists::{
+    ListFault, ReadEnd, Row, Rows, RowsIter, SourceFault, Tap, laws, read_all, records,
+};
 use mt_samples::devices::{Endless, Pieces};
 use mt_samples::without_couples::SPREADSHEET_EXPORT;
 use std::alloc::{AllocError, Global};
@@ -26,7 +28,12 @@ fn has_rows(alloc: Global, input: &[u8], expected: &[&[&[u8]]]) -> Result<bool, 
 }
 
 fn are_rows(rows: &Rows<'_>, expected: &[&[&[u8]]]) -> bool {
-    let mut left = rows.iter();
+    come(rows.iter(), expected)
+}
+
+// Whether these rows come, and no others.
+fn come(rows: RowsIter<'_>, expected: &[&[&[u8]]]) -> bool {
+    let mut left = rows;
     for fields in expected {
         match left.next() {
             Some(row) if has_fields(&row, fields) => {}
@@ -79,6 +86,45 @@ fn spreadsheet_rows(rt: HostRuntime) {
     let fault = fault_of(rt.alloc(), b"\xEF\xBB\xBF\xEF\xBB\xBFmatch,1\n");
     same(&rt, fault, Some(ListFault::TwoMarks));
     laws::worked_inputs();
+}
+
+// Rows of a text of twelve bytes, up to the first line feed in its second half, and those after it.
+const HALVES: (&[u8], &[&[&[u8]]], &[&[&[u8]]]) = (
+    b"a,b\nc\n\nd\ne,f",
+    &[&[b"a", b"b"], &[b"c"]],
+    &[&[b"d"], &[b"e", b"f"]],
+);
+
+// Texts without parts: one has a quote, and one no line feed in its second half.
+const WHOLE: [&[u8]; 2] = [b"\"a\",b\nc\n\nd\ne,f", b"a,b\nc,d,e,f,g"];
+
+// Whether an input has two parts, if parts are for this many bytes.
+fn has_halves(alloc: Global, input: &[u8], bytes: usize) -> Result<bool, ListFault> {
+    let rows = records(alloc, input)?;
+    Ok(rows.iter().halves(bytes).is_some())
+}
+
+fn are_halves(alloc: Global) -> Result<bool, ListFault> {
+    let (input, first, second) = HALVES;
+    let rows = records(alloc, input)?;
+    match rows.iter().halves(input.len()) {
+        Some(halves) => Ok(come(halves.0, first) && come(halves.1, second)),
+        None => Ok(false),
+    }
+}
+
+#[test]
+fn rows_in_halves(rt: HostRuntime) {
+    assert!(rt; are_halves(rt.alloc()) == Ok(true));
+    let (input, _, _) = HALVES;
+    same(
+        &rt,
+        has_halves(rt.alloc(), input, input.len() + 1),
+        Ok(false),
+    );
+    for whole in &WHOLE {
+        holds_for(&rt, has_halves(rt.alloc(), whole, 0) == Ok(false), whole);
+    }
 }
 
 // How many fields the long line has. It is longer than a piece whose commas are counted at once.
