@@ -131,7 +131,7 @@ fn drafts_of_parts<'a, R: Threads + Sync>(
     Ok(Some(drafts))
 }
 
-/// The records of the rows of a long text, made by two threads, if they find no fault.
+/// The records of the rows of a long text, made by two threads, if these find no fault and there are two processors.
 fn drafts_by_halves<'a, R: Threads + Sync>(
     rt: &R,
     alloc: Global,
@@ -143,6 +143,9 @@ fn drafts_by_halves<'a, R: Threads + Sync>(
     let Some(parts) = rows.halves(FEWEST) else {
         return Ok(None);
     };
+    if current_num_threads(rt) == 1 {
+        return Ok(None);
+    }
     // Linux may keep the first thread that a young process starts on the processor of its starter, which waits for it
     // there. So the first one has nothing to do.
     let nothing = || {};
@@ -170,10 +173,8 @@ pub fn drafts_of<'a, R: Threads + Sync>(
     ensures { IfOk result (λ read. MatchOption read (HaveFault rules.now (rows_left rows.entry))
         (AreDraftsOf rules.now (rows_left rows.entry))) }
 {
-    if current_num_threads(rt) > 1 {
-        if let Some(drafts) = drafts_by_halves(rt, alloc, rules, rows)? {
-            return Ok(Some(drafts));
-        }
+    match drafts_by_halves(rt, alloc, rules, rows)? {
+        Some(drafts) => Ok(Some(drafts)),
+        None => drafts_in_turn(alloc, rules, rows),
     }
-    drafts_in_turn(alloc, rules, rows)
 }
