@@ -12,12 +12,8 @@ use Rattle.mt_terms.specs.Registration.Records.{Record, Rules, rules_of}
 use Rattle.mt_draft_laws.specs.Faultless.{draft, drafts, faultless_market, is_faultless}
 use Rattle.mt_file_laws.proofs.FaultlessFacts.{passes_agree}
 use Rattle.mt_drafts.specs.Drafts.{with_fields}
+use Rattle.mt_drafts.proofs.DraftFacts.{with_fields-append}
 use Rattle.mt_roster.proofs.ReadFacts.{contents-with_fields}
-
-with_fields-append : (xs ys : List (List Bytes)) → with_fields (xs ++ ys) ≡ with_fields xs ++ with_fields ys
-with_fields-append [] ys = refl
-with_fields-append ([] ∷ xs) ys = with_fields-append xs ys
-with_fields-append ((word ∷ fields) ∷ xs) ys = ap (λ (rest : List (List Bytes)). (word ∷ fields) ∷ rest) (with_fields-append xs ys)
 
 -- the row that names the version, and the market of the rows after it
 record Versioned (rows : List (List Bytes)) (r : Registered) : Type 0 where

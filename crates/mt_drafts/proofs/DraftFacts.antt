@@ -57,7 +57,7 @@ module _ (rules : Rules) where
       by (Some rest) = rw (too_many rules front rest many) refl
 
 -- the rows that have a field, of rows and others after them
-with_fields-append : (rows more : List (List Bytes)) → with_fields (rows ++ more) ≡ with_fields rows ++ with_fields more
+pub with_fields-append : (rows more : List (List Bytes)) → with_fields (rows ++ more) ≡ with_fields rows ++ with_fields more
 with_fields-append [] more = refl
 with_fields-append ([] ∷ rows) more = with_fields-append rows more
 with_fields-append ((word ∷ fields) ∷ rows) more = ap (λ (all : List (List Bytes)). (word ∷ fields) ∷ all) (with_fields-append rows more)

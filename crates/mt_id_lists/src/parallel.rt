@@ -10,7 +10,7 @@ use std::alloc::{AllocError, Global};
 use std::thread::Threads;
 
 /// How many entries lists have.
-fn entries_of<L, M: Drop + Send + Sync, S: ListReader<L, M> + Sync>(
+fn total_entries<L, M: Drop + Send + Sync, S: ListReader<L, M> + Sync>(
     reader: &S,
     lists: &[L],
 ) -> usize {
@@ -29,7 +29,7 @@ fn read_chunk<L, M: Drop + Send + Sync, S: ListReader<L, M> + Sync>(
 ) -> Result<Option<FlatLists<S::Item>>, AllocError>
     ensures { IfOk result (ReadsAll (S.stands reader.now) (S.read reader.now) lists.now) }
 {
-    let mut read = FlatLists::with_capacity(alloc, lists.len(), entries_of(reader, lists))?;
+    let mut read = FlatLists::with_capacity(alloc, lists.len(), total_entries(reader, lists))?;
     let mut met = reader.new_met(alloc)?;
     for list in lists {
         if !reader.read_list(alloc, &mut read, &mut met, list)? {

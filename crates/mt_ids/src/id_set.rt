@@ -170,7 +170,7 @@ fn seed_of(names: &FlatLists<u8>) -> Seed
 }
 
 /// The set of the ids that these names are, if they differ. It hashes by their seed. The error is want of memory.
-pub(crate) fn set_of<'a>(
+pub(crate) fn filled_set<'a>(
     alloc: Global,
     names: &'a FlatLists<u8>,
 ) -> Result<Option<IdSet<'a>>, AllocError>

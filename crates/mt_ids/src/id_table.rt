@@ -1,7 +1,7 @@
 ghost use Rattle.std.specs.Prelude.{◌≡◌, ◌<◌, ◌^◌, ◌++◌, [], ◌∷◌, false, not, length, position, bytes_eq, OnOk, OnErr, IfOk, IfSome, is_some, if◌then◌else◌};
 ghost use Rattle.mt_terms.specs.Registration.Ids.{has_id, all_differ};
 
-use crate::id_set::{IdSet, set_of};
+use crate::id_set::{IdSet, filled_set};
 use crate::seed::Seed;
 use mt_flat::FlatLists;
 use std::alloc::{AllocError, Global};
@@ -50,7 +50,7 @@ impl<'a> IdTable<'a> {
         ensures ids { IfOk result (λ found. IfSome found (λ table. table ≡ names.now)) }
         ensures differ { IfOk result (λ found. is_some found ≡ all_differ bytes_eq names.now) }
     {
-        match set_of(alloc, names)? {
+        match filled_set(alloc, names)? {
             Some(set) => Ok(Some(IdTable { set })),
             None => Ok(None),
         }

@@ -16,7 +16,7 @@ use std::io::Read;
 use std::thread::Threads;
 
 /// The roster of a market's records, or the market's refusal.
-fn roster_of<T: Threads + Sync>(rt: &T, alloc: Global, rows: &Rows<'_>) -> Result<Roster, Refusal>
+fn roster_or_refusal<T: Threads + Sync>(rt: &T, alloc: Global, rows: &Rows<'_>) -> Result<Roster, Refusal>
     ensures market { IfOk result (λ roster. market_of rows.now ≡ Ok roster) }
     ensures refused { IfErr result (IsRefusalIn (market_of rows.now)) }
 {
@@ -35,7 +35,7 @@ pub fn market_in<T: Threads + Sync>(rt: &T, alloc: Global, bytes: &[u8]) -> Resu
     ensures refused { IfErr result (IsRefusalIn (market_in bytes.now)) }
 {
     match records(alloc, bytes) {
-        Ok(rows) => roster_of(rt, alloc, &rows),
+        Ok(rows) => roster_or_refusal(rt, alloc, &rows),
         Err(ListFault::TwoMarks) => Err(Refusal::alone(TWO_MARKS)),
         Err(ListFault::Memory) => Err(Refusal::alone(OUT_OF_MEMORY)),
     }

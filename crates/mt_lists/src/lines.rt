@@ -133,7 +133,7 @@ fn trimmed(line: &[u8]) -> &[u8]
 const PIECE: usize = 255;
 
 // How many commas a piece of a line has. Counts that are bytes are added up by vectors.
-fn commas_of(piece: &[u8]) -> u8
+fn piece_commas(piece: &[u8]) -> u8
     requires { length piece.now ≤ 255 }
     ensures { result ≡ count_by is_comma piece.now }
 {
@@ -155,10 +155,10 @@ fn commas(line: &[u8]) -> usize
     let mut left = line;
     while left.len() > PIECE {
         let (piece, rest) = left.split_at(PIECE);
-        count += usize::from(commas_of(piece));
+        count += usize::from(piece_commas(piece));
         left = rest;
     }
-    count + usize::from(commas_of(left))
+    count + usize::from(piece_commas(left))
 }
 
 // Goes past pieces of a line, as long as they have fewer commas than fields are to be passed. Gives what is left of the
@@ -170,7 +170,7 @@ fn past_pieces(line: &[u8], count: usize) -> (&[u8], usize)
     let mut left = count;
     while rest.len() > PIECE {
         let (piece, after) = rest.split_at(PIECE);
-        let passed = usize::from(commas_of(piece));
+        let passed = usize::from(piece_commas(piece));
         if passed >= left {
             return (rest, left);
         }

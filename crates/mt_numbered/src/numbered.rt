@@ -70,7 +70,7 @@ impl<'a, T: Number> Numbered<'a, T> {
     }
 
     /// These ids, each with its place as its number.
-    pub fn in_place(ids: IdTable<'a>) -> Self
+    pub fn unchanged(ids: IdTable<'a>) -> Self
         requires { length ids < 2 ^ 32 }
         ensures ids { result.ids ≡ ids.entry }
         ensures numbers { result.numbers ≡ map (λ k. Some (T.at k)) (below (length ids.entry)) }
@@ -101,7 +101,7 @@ impl<'a, T: Number> Numbered<'a, T> {
     }
 
     /// The new number of the id at a place, if it has one.
-    pub fn number_at(&self, place: usize) -> Option<T>
+    pub fn new_number(&self, place: usize) -> Option<T>
         requires { place < length self.now.ids }
         ensures { result ≡ slice_index_or self.now.numbers place None }
     {
@@ -116,7 +116,7 @@ impl<'a, T: Number> Numbered<'a, T> {
         ensures { result ≡ number_by self.now id.now }
     {
         let place = self.ids.number(id)?;
-        self.number_at(place)
+        self.new_number(place)
     }
 
     /// Adds the new number of the id at a place to the last of these lists, if it has one and the list is kept.
@@ -133,7 +133,7 @@ impl<'a, T: Number> Numbered<'a, T> {
             (option_to_list (slice_index_or self.now.numbers place None))) }
     {
         if kept {
-            if let Some(number) = self.number_at(place) {
+            if let Some(number) = self.new_number(place) {
                 lists.push(number)?;
             }
         }

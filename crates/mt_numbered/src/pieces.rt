@@ -179,7 +179,7 @@ fn push_places<T: Number>(
 }
 
 /// How many entries lists have.
-fn entries_of(lists: &[IdList<'_, '_>]) -> usize {
+fn total_entries(lists: &[IdList<'_, '_>]) -> usize {
     let mut entries: usize = 0;
     for list in lists {
         if let Some(fields) = list.fields {
@@ -206,7 +206,7 @@ fn are_worth_pieces<R: Threads>(rt: &R, lists: &[IdList<'_, '_>]) -> bool {
     if lists.len() >= current_num_threads(rt) {
         return false;
     }
-    let entries = entries_of(lists);
+    let entries = total_entries(lists);
     entries >= FEWEST && longest_of(lists) >= entries / 2
 }
 
@@ -221,7 +221,7 @@ fn read_in_pieces<R: Threads + Sync, T: Number + Send + Sync>(
     ensures { IfOk result (ReadsAll (λ list. ids_stand ids.now (list_seen list))
         (λ list. ids_read ids.now (list_seen list)) lists.now) }
 {
-    let mut read = FlatLists::with_capacity(alloc, lists.len(), entries_of(lists))?;
+    let mut read = FlatLists::with_capacity(alloc, lists.len(), total_entries(lists))?;
     let mut met = Met::new(alloc, ids.len())?;
     let reader = PlaceReader { numbered: ids };
     for list in lists {

@@ -9,7 +9,7 @@ use Rattle.mt_terms.specs.Registration.Accepted.{IsRegistration}
 use Rattle.mt_draft_laws.specs.Faultless.{is_faultless, faultless_market}
 use Rattle.mt_drafts.specs.declared.drafts.Drafts.{Drafts}
 use Rattle.mt_drafts.specs.Drafts.{drafted, with_fields, AreDraftsOf, HaveFault}
-use Rattle.mt_numbering.specs.Markets.{AcceptsRegistrations, IsMarketOf}
+use Rattle.mt_numbering.specs.Markets.{AcceptsRegistrations, GivesMarket}
 
 -- the drafts that were found
 pub drafts_found : (rules : Rules) (rows : List (List Bytes)) (o : Option Drafts) (d : Drafts) → MatchOption o (HaveFault rules rows) (AreDraftsOf rules rows) → o ≡ Some d → AreDraftsOf rules rows d
@@ -23,7 +23,7 @@ module _ (rules : Rules) (rows : List (List Bytes)) (d : Drafts) (are : AreDraft
   market_is : faultless_market rules (with_fields rows) ≡ (if is_faultless rules (drafted d) then Some (registered (drafted d)) else None)
   market_is = ap (option_and_then (λ (rs : List Record). if is_faultless rules rs then Some (registered rs) else None)) are.records
 
-  pub market_found : (o : Option Market) → IsMarketOf rules (drafted d) o → o ≡ faultless_market rules (with_fields rows)
+  pub market_found : (o : Option Market) → GivesMarket rules (drafted d) o → o ≡ faultless_market rules (with_fields rows)
   market_found None h =
       let none : (if is_faultless rules (drafted d) then Some (registered (drafted d)) else None) ≡ None = rw h refl in
       sym (market_is ∙ none)

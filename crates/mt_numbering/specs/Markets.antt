@@ -39,9 +39,9 @@ Remains rules rs left (Some e) = (is_faultless rules rs ≡ true) × (left ≡ r
 Remains rules rs left None = is_faultless rules rs ≡ false
 
 -- The market of these records, if they have no fault among them.
-abbrev pub IsMarketOf : Rules → List Record → Option Market → Type 0
-IsMarketOf rules rs None = is_faultless rules rs ≡ false
-IsMarketOf rules rs (Some m) = (is_faultless rules rs ≡ true) × (m ≡ registered rs)
+abbrev pub GivesMarket : Rules → List Record → Option Market → Type 0
+GivesMarket rules rs None = is_faultless rules rs ≡ false
+GivesMarket rules rs (Some m) = (is_faultless rules rs ≡ true) × (m ≡ registered rs)
 
 -- What is accepted of these rows is a registration.
 abbrev pub AcceptsRegistrations : Rules → List (List Bytes) → Type 0

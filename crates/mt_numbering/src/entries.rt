@@ -65,7 +65,7 @@ fn rankings<R: Threads + Sync>(
     ensures { IfOk result (ReadsAll (ids_stand applicants.now) (ids_read applicants.now)
         (lists_of_programs listed.now)) }
 {
-    let lists = listed.of_programs(alloc)?;
+    let lists = listed.program_lists(alloc)?;
     read_id_lists(rt, alloc, applicants, lists)
 }
 
@@ -79,7 +79,7 @@ fn choices<R: Threads + Sync>(
     ensures { IfOk result (ReadsAll (ids_stand programs.now) (ids_read programs.now)
         (lists_of_applicants listed.now)) }
 {
-    let lists = listed.of_applicants(alloc)?;
+    let lists = listed.applicant_lists(alloc)?;
     read_lists(rt, alloc, programs, lists)
 }
 
@@ -94,7 +94,7 @@ fn pairs<R: Threads + Sync>(
         (pairs_read reader.now.programs.now)
         (lists_of_couples listed.now)) }
 {
-    let lists = listed.of_couples(alloc)?;
+    let lists = listed.couple_lists(alloc)?;
     read_lists(rt, alloc, reader, lists)
 }
 
@@ -125,7 +125,7 @@ fn members(
 }
 
 /// What records say by applicants, if no two applicants have one id and each program's list stands.
-fn by_applicants<'n, R: Threads + Sync>(
+fn applicants_side<'n, R: Threads + Sync>(
     rt: &R,
     alloc: Global,
     names: &'n NameLists,
@@ -153,7 +153,7 @@ fn by_applicants<'n, R: Threads + Sync>(
 }
 
 /// What records say by programs, if no two programs have one id, and each applicant's list and each pair stands.
-fn by_programs<'n, R: Threads + Sync>(
+fn programs_side<'n, R: Threads + Sync>(
     rt: &R,
     alloc: Global,
     names: &'n NameLists,
@@ -187,7 +187,7 @@ fn by_programs<'n, R: Threads + Sync>(
 }
 
 /// What records say by applicants, and what they say by programs, side by side.
-fn by_both<'n, R: Threads + Sync>(
+fn both_sides<'n, R: Threads + Sync>(
     rt: &R,
     alloc: Global,
     names: &'n NameLists,
@@ -211,13 +211,13 @@ fn by_both<'n, R: Threads + Sync>(
             × HaveFewApplicants (all_seen listed.now.records.now) }
         ensures { IfOk result (GivesByApplicants (stays_after listed.entry.now.withdrawn.now)
             (all_seen listed.entry.now.records.now)) }
-    { by_applicants(rt, alloc, names, listed) };
+    { applicants_side(rt, alloc, names, listed) };
     let other = || -> Result<Option<ByPrograms<'_>>, AllocError>
         requires { (names.now.programs ≡ ids_of OfProgram (all_seen listed.now.records.now))
             × HaveFewPrograms (all_seen listed.now.records.now) }
         ensures { IfOk result (GivesByPrograms half_pairs (stays_after listed.entry.now.withdrawn.now)
             (all_seen listed.entry.now.records.now)) }
-    { by_programs(rt, alloc, names, half_pairs, listed) };
+    { programs_side(rt, alloc, names, half_pairs, listed) };
     join(rt, one, other)
 }
 
@@ -232,7 +232,7 @@ type ByKind<'n> = (
 
 /// The table of the couples' ids, if they differ, and what records say by applicants and by programs: side by side if
 /// there are many records and more than one processor.
-fn by_kind<'n, R: Threads + Sync>(
+fn ids_and_sides<'n, R: Threads + Sync>(
     rt: &R,
     alloc: Global,
     names: &'n NameLists,
@@ -264,12 +264,12 @@ fn by_kind<'n, R: Threads + Sync>(
             (all_seen listed.entry.now.records.now))
             × IfOk result.1 (GivesByPrograms half_pairs (stays_after listed.entry.now.withdrawn.now)
             (all_seen listed.entry.now.records.now)) }
-    { by_both(rt, alloc, names, half_pairs, listed) };
+    { both_sides(rt, alloc, names, half_pairs, listed) };
     if listed.records.len() < FEWEST || current_num_threads(rt) == 1 {
         let couples = couples();
         // The table of programs is made first, as it is the smaller one, and is kept while the other lists are read.
-        let programs = by_programs(rt, alloc, names, half_pairs, listed);
-        (couples, (by_applicants(rt, alloc, names, listed), programs))
+        let programs = programs_side(rt, alloc, names, half_pairs, listed);
+        (couples, (applicants_side(rt, alloc, names, listed), programs))
     } else {
         // Linux may keep the first thread that a young process starts waiting on the processor of its starter. So the
         // couples' ids have that thread, as they are the fewest.
@@ -293,7 +293,7 @@ pub(crate) fn read_entries<'n, R: Threads + Sync>(
     ensures { IfOk result (GivesEntries half_pairs (stays_after withdrawn.now) (all_seen records.now)) }
 {
     let listed = RecordLists { withdrawn, records };
-    let (couples, (by_applicants, by_programs)) = by_kind(rt, alloc, names, half_pairs, &listed);
+    let (couples, (by_applicants, by_programs)) = ids_and_sides(rt, alloc, names, half_pairs, &listed);
     let Some(couples) = couples? else {
         return Ok(None);
     };

@@ -33,7 +33,7 @@ pub(crate) struct RecordLists<'r, 'a> {
 
 impl<'r, 'a> RecordLists<'r, 'a> {
     /// The lists of programs.
-    pub(crate) fn of_programs(&self, alloc: Global) -> Result<Vec<IdList<'r, 'a>>, AllocError>
+    pub(crate) fn program_lists(&self, alloc: Global) -> Result<Vec<IdList<'r, 'a>>, AllocError>
         ensures { IfOk result (λ lists. map list_seen lists.items ≡ lists_of_programs self.now) }
     {
         let mut lists = Vec::with_capacity(alloc, self.records.len())?;
@@ -46,7 +46,7 @@ impl<'r, 'a> RecordLists<'r, 'a> {
     }
 
     /// The lists of applicants. A couple's two members have none.
-    pub(crate) fn of_applicants(&self, alloc: Global) -> Result<Vec<IdList<'r, 'a>>, AllocError>
+    pub(crate) fn applicant_lists(&self, alloc: Global) -> Result<Vec<IdList<'r, 'a>>, AllocError>
         ensures { IfOk result (λ lists. map list_seen lists.items ≡ lists_of_applicants self.now) }
     {
         let mut lists = Vec::with_capacity(alloc, self.records.len())?;
@@ -65,7 +65,7 @@ impl<'r, 'a> RecordLists<'r, 'a> {
     }
 
     /// The lists of couples.
-    pub(crate) fn of_couples(&self, alloc: Global) -> Result<Vec<PairList<'a>>, AllocError>
+    pub(crate) fn couple_lists(&self, alloc: Global) -> Result<Vec<PairList<'a>>, AllocError>
         ensures { IfOk result (λ lists. map pair_list_seen lists.items ≡ lists_of_couples self.now) }
     {
         let mut lists = Vec::new(alloc);

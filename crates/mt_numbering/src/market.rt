@@ -8,7 +8,7 @@ ghost use Rattle.mt_terms.specs.Registration.Numbering.{registered};
 ghost use Rattle.mt_terms.specs.Registration.Passes.{are_too_many};
 ghost use Rattle.mt_drafts.specs.Drafts.{drafted, with_fields, AreDrafts};
 ghost use Rattle.mt_drafts.specs.Names.{AreNames};
-ghost use Rattle.mt_numbering.specs.Markets.{AcceptsRegistrations, AreEntries, IsMarketOf, Remains};
+ghost use Rattle.mt_numbering.specs.Markets.{AcceptsRegistrations, AreEntries, GivesMarket, Remains};
 ghost use Rattle.mt_records.specs.Records.{all_seen};
 ghost use Rattle.mt_numbering.specs.Numbered.{registered_by_all};
 ghost use Rattle.mt_records.specs.Limits.{AreBounded};
@@ -111,7 +111,7 @@ fn market_of_drafts<R: Threads + Sync>(
     requires few { are_too_many rules.now.limits (drafted drafts) ≡ false }
     requires accepted { is_faultless rules.now (drafted drafts) ≡ true
         → IsRegistration (registered (drafted drafts)) }
-    ensures { IfOk result (IsMarketOf rules.now (drafted drafts.entry)) }
+    ensures { IfOk result (GivesMarket rules.now (drafted drafts.entry)) }
 {
     let Drafts {
         mut records,

@@ -209,7 +209,7 @@ pub(crate) fn numbered_programs<'n>(
         ≡ new_numbers 0 (program_flags (stays_after withdrawn.now) (all_seen records.now))) }
 {
     if withdrawn.programs.len() == 0 {
-        return Ok(Numbered::in_place(ids));
+        return Ok(Numbered::unchanged(ids));
     }
     let numbers = program_numbers(alloc, withdrawn, records)?;
     Ok(Numbered::new(ids, numbers))
@@ -229,7 +229,7 @@ pub(crate) fn numbered_applicants<'n>(
         ≡ new_numbers 0 (applicant_flags (stays_after withdrawn.now) (all_seen records.now))) }
 {
     if withdrawn.applicants.len() == 0 && withdrawn.couples.len() == 0 {
-        return Ok(Numbered::in_place(ids));
+        return Ok(Numbered::unchanged(ids));
     }
     let numbers = applicant_numbers(alloc, withdrawn, records)?;
     Ok(Numbered::new(ids, numbers))

@@ -65,7 +65,7 @@ fn new_place(programs: &Numbered<'_, ProgNo>, place: Option<usize>) -> Option<Op
     let Some(place) = place else {
         return Some(None);
     };
-    let program = programs.number_at(place)?;
+    let program = programs.new_number(place)?;
     Some(Some(program))
 }
 
@@ -86,7 +86,7 @@ fn new_pair(
 
 impl<'n, 'a> PairReader<'n, 'a> {
     /// A pair by numbers, if it is allowed and names none but these programs.
-    fn pair(
+    fn numbered_pair(
         &self,
         first: Option<&[u8]>,
         second: Option<&[u8]>,
@@ -141,7 +141,7 @@ impl<'n, 'a> PairReader<'n, 'a> {
     {
         found.clear();
         for (first, second) in list {
-            let Some((first, second)) = self.pair(first, second) else {
+            let Some((first, second)) = self.numbered_pair(first, second) else {
                 return Ok(false);
             };
             found.push((first, second))?;

@@ -59,7 +59,7 @@ pub(crate) fn are_pairs(rules: &Rules, fields: Fields<'_>) -> bool
 }
 
 /// The place that a field of a pair names, which is none for `-`.
-fn place_of<'a>(field: &'a [u8]) -> Option<&'a [u8]>
+fn named_place<'a>(field: &'a [u8]) -> Option<&'a [u8]>
     ensures { option_copied result ≡ (pair_of (field.now, field.now)).0 }
 {
     if is_dash(field) { None } else { Some(field) }
@@ -106,7 +106,7 @@ impl<'a> Iterator for Pairs<'a> {
 
     fn next(&mut self) -> Option<(Option<&'a [u8]>, Option<&'a [u8]>)> {
         let (first, second) = next_two(&mut self.fields)?;
-        Some((place_of(first), place_of(second)))
+        Some((named_place(first), named_place(second)))
     }
 }
 

@@ -9,7 +9,7 @@ use Rattle.mt_numbering.proofs.withdrawals.numbered_applicants.Goals as goal
 
 pub returns-then-len-eq0-2-clause-numbers : goal.returns-then-len-eq0-2-clause-numbers
 returns-then-len-eq0-2-clause-numbers c =
-    c.in_place.ensures.numbers ∙ ap (λ n. map Some (below n)) (ap length c.requires.ids)
+    c.unchanged.ensures.numbers ∙ ap (λ n. map Some (below n)) (ap length c.requires.ids)
     ∙ applicants_in_place c.args.withdrawn.now (all_seen c.args.records.now) (sym c.len.ensures.len ∙ c.if-len-eq0.true) (sym c.len-then-len-eq0.ensures.len ∙ c.if-len-eq0-2.true)
 
 pub new-requires : goal.new-requires

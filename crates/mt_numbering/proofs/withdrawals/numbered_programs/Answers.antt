@@ -9,7 +9,7 @@ use Rattle.mt_numbering.proofs.withdrawals.numbered_programs.Goals as goal
 
 pub returns-then-len-eq0-clause-numbers : goal.returns-then-len-eq0-clause-numbers
 returns-then-len-eq0-clause-numbers c =
-    c.in_place.ensures.numbers ∙ ap (λ n. map Some (below n)) (ap length c.requires.ids)
+    c.unchanged.ensures.numbers ∙ ap (λ n. map Some (below n)) (ap length c.requires.ids)
     ∙ programs_in_place c.args.withdrawn.now (all_seen c.args.records.now) (sym c.len.ensures.len ∙ c.if-len-eq0.true)
 
 pub new-requires : goal.new-requires

@@ -16,20 +16,20 @@ use Rattle.mt_pair_lists.proofs.pairs.PairReader.push_pairs.Goals as goal
 pub push_pair-requires-clause-first : goal.push_pair-requires-clause-first
 push_pair-requires-clause-first c =
     (found_pair c.args.self.now.half_pairs c.args.self.now.programs.now.ids (option_copied c.in-Some.first, option_copied c.in-Some.second)
-    (c.in-Some-pair.first, c.in-Some-pair.second) c.in-Some-pair.ensures).first
+    (c.in-Some-numbered_pair.first, c.in-Some-numbered_pair.second) c.in-Some-numbered_pair.ensures).first
 
 pub push_pair-requires-clause-second : goal.push_pair-requires-clause-second
 push_pair-requires-clause-second c =
     (found_pair c.args.self.now.half_pairs c.args.self.now.programs.now.ids (option_copied c.in-Some.first, option_copied c.in-Some.second)
-    (c.in-Some-pair.first, c.in-Some-pair.second) c.in-Some-pair.ensures).second
+    (c.in-Some-numbered_pair.first, c.in-Some-numbered_pair.second) c.in-Some-numbered_pair.ensures).second
 
 pub loop-first-preserved : goal.loop-first-preserved
 loop-first-preserved c =
     let half_pairs = c.args.self.now.half_pairs in
     let n = c.args.self.now.programs.now in
     let p : IdPair = (option_copied c.in-Some.first, option_copied c.in-Some.second) in
-    let q : Pair = (c.in-Some-pair.first, c.in-Some-pair.second) in
-    let found = found_pair half_pairs n.ids p q c.in-Some-pair.ensures in
+    let q : Pair = (c.in-Some-numbered_pair.first, c.in-Some-numbered_pair.second) in
+    let found = found_pair half_pairs n.ids p q c.in-Some-numbered_pair.ensures in
     let left = pairs_left c.loop-first.first-iterator in
     let rest = pairs_left c.next.new.self in
     record {

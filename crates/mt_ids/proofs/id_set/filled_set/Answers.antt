@@ -3,7 +3,7 @@ use Rattle.std.proofs.lemmas.List.{take_all}
 use Rattle.std.specs.Prelude.{bytes_eq}
 use Rattle.mt_terms.specs.Registration.Ids.{all_differ}
 use Rattle.mt_ids.proofs.IdFacts.{stands_twice, has_next}
-use Rattle.mt_ids.proofs.id_set.set_of.Goals as goal
+use Rattle.mt_ids.proofs.id_set.filled_set.Goals as goal
 
 pub loop-i-init : goal.loop-i-init
 loop-i-init c = ((c.in_ok-set.ensures.ids, ap (all_differ bytes_eq) c.in_ok-set.ensures.ids), c.in_ok-set.ensures.seed ∙ c.seed_of.ensures)

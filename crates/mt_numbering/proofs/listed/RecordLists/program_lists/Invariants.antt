@@ -4,7 +4,7 @@ use Rattle.mt_records.specs.Records.{all_seen}
 use Rattle.mt_numbering.specs.Numbered.{program_lists}
 use Rattle.mt_numbering.specs.Reading.{lists_of_programs}
 use Rattle.mt_numbering.specs.Withdrawals.{stays_after}
-use Rattle.mt_numbering.proofs.listed.RecordLists.of_programs.Given as goal
+use Rattle.mt_numbering.proofs.listed.RecordLists.program_lists.Given as goal
 
 abbrev pub invariant-loop-one : goal.invariant-loop-one
 invariant-loop-one l =

@@ -1,7 +1,7 @@
 use Rattle.std.proofs.Common.{◌∙◌, None, Some, get_or, refl, ap, arith}
 use Rattle.std.proofs.lemmas.List.{get_or_default}
 use Rattle.mt_numbered.proofs.NumberFacts.{in_table, few_places, at_place}
-use Rattle.mt_numbered.proofs.numbered.Numbered.number_at.Goals as goal
+use Rattle.mt_numbered.proofs.numbered.Numbered.new_number.Goals as goal
 
 pub index-requires : goal.index-requires
 index-requires g c =

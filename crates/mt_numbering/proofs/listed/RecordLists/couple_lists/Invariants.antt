@@ -4,7 +4,7 @@ use Rattle.mt_numbering.specs.Numbered.{couple_lists}
 use Rattle.mt_numbering.specs.Reading.{lists_of_couples}
 use Rattle.mt_pair_lists.specs.Pairs.{pair_list_seen}
 use Rattle.mt_numbering.specs.Withdrawals.{stays_after}
-use Rattle.mt_numbering.proofs.listed.RecordLists.of_couples.Given as goal
+use Rattle.mt_numbering.proofs.listed.RecordLists.couple_lists.Given as goal
 
 abbrev pub invariant-loop-one : goal.invariant-loop-one
 invariant-loop-one l =

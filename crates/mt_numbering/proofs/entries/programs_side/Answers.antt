@@ -6,7 +6,7 @@ use Rattle.mt_terms.specs.Registration.Rows.{ids_of}
 use Rattle.mt_records.specs.Records.{all_seen}
 use Rattle.mt_numbering.specs.Withdrawals.{stays_after}
 use Rattle.mt_numbering.proofs.MarketFacts.{table_found, table_missing, choices_fail, pairs_fail, given_by_programs}
-use Rattle.mt_numbering.proofs.entries.by_programs.Goals as goal
+use Rattle.mt_numbering.proofs.entries.programs_side.Goals as goal
 
 pub returns-in_default : goal.returns-in_default
 returns-in_default g c =

@@ -5,7 +5,7 @@ use Rattle.mt_terms.specs.Registration.Rows.{applicant_ids}
 use Rattle.mt_records.specs.Records.{all_seen}
 use Rattle.mt_numbering.specs.Withdrawals.{stays_after}
 use Rattle.mt_numbering.proofs.MarketFacts.{table_found, table_missing, rankings_fail, given_by_applicants}
-use Rattle.mt_numbering.proofs.entries.by_applicants.Goals as goal
+use Rattle.mt_numbering.proofs.entries.applicants_side.Goals as goal
 
 pub returns-in_default : goal.returns-in_default
 returns-in_default g c =
