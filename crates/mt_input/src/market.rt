@@ -16,7 +16,11 @@ use std::io::Read;
 use std::thread::Threads;
 
 /// The roster of a market's records, or the market's refusal.
-fn roster_or_refusal<T: Threads + Sync>(rt: &T, alloc: Global, rows: &Rows<'_>) -> Result<Roster, Refusal>
+fn roster_or_refusal<T: Threads + Sync>(
+    rt: &T,
+    alloc: Global,
+    rows: &Rows<'_>,
+) -> Result<Roster, Refusal>
     ensures market { IfOk result (λ roster. market_of rows.now ≡ Ok roster) }
     ensures refused { IfErr result (IsRefusalIn (market_of rows.now)) }
 {

@@ -269,7 +269,10 @@ fn ids_and_sides<'n, R: Threads + Sync>(
         let couples = couples();
         // The table of programs is made first, as it is the smaller one, and is kept while the other lists are read.
         let programs = programs_side(rt, alloc, names, half_pairs, listed);
-        (couples, (applicants_side(rt, alloc, names, listed), programs))
+        (
+            couples,
+            (applicants_side(rt, alloc, names, listed), programs),
+        )
     } else {
         // Linux may keep the first thread that a young process starts waiting on the processor of its starter. So the
         // couples' ids have that thread, as they are the fewest.
@@ -293,7 +296,9 @@ pub(crate) fn read_entries<'n, R: Threads + Sync>(
     ensures { IfOk result (GivesEntries half_pairs (stays_after withdrawn.now) (all_seen records.now)) }
 {
     let listed = RecordLists { withdrawn, records };
-    let (couples, (by_applicants, by_programs)) = ids_and_sides(rt, alloc, names, half_pairs, &listed);
+    let (couples, (by_applicants, by_programs)) = ids_and_sides(
+        rt, alloc, names, half_pairs, &listed,
+    );
     let Some(couples) = couples? else {
         return Ok(None);
     };
