@@ -36,28 +36,28 @@ couple_at (m ∷ ms) (p ∷ ps) (suc i) h = couple_at ms ps i (omega arith)
 
 -- Below, t are the tables of a roster.
 pub count_of_programs : (t : Tables) → AreTables t → length (registered_of t).market.programs ≡ length t.quotas.items
-count_of_programs t h = length-programs_with t.quotas.items t.rankings h.rankings
+count_of_programs t h = length-programs_with t.quotas.items t.by_applicants.rankings h.rankings
 
-pub count_of_couples : (t : Tables) → AreTables t → length (registered_of t).market.couples ≡ length t.members.items
-count_of_couples t h = length-couples_with t.members.items t.pairs h.pairs
+pub count_of_couples : (t : Tables) → AreTables t → length (registered_of t).market.couples ≡ length t.by_applicants.members.items
+count_of_couples t h = length-couples_with t.by_applicants.members.items t.by_programs.pairs h.pairs
 
 pub count_of_agents : (t : Tables) → AreTables t → length t.agents.items ≡ applicants (registered_of t).market
-count_of_agents t h = ap length h.agents ∙ length-map_below (agent_of (registered_of t).market) (length t.lists)
+count_of_agents t h = ap length h.agents ∙ length-map_below (agent_of (registered_of t).market) (length t.by_programs.lists)
 
 pub quota_at : (t : Tables) (p : ℕ) → AreTables t → get_or t.quotas.items p 0 ≡ (program_of (registered_of t).market p).quota
-quota_at t p h = ap (λ (x : Program). x.quota) (sym (program_at t.quotas.items t.rankings p h.rankings))
+quota_at t p h = ap (λ (x : Program). x.quota) (sym (program_at t.quotas.items t.by_applicants.rankings p h.rankings))
 
-pub ranking_at : (t : Tables) (p : ℕ) → AreTables t → get_or t.rankings p [] ≡ (program_of (registered_of t).market p).ranking
-ranking_at t p h = ap (λ (x : Program). x.ranking) (sym (program_at t.quotas.items t.rankings p h.rankings))
+pub ranking_at : (t : Tables) (p : ℕ) → AreTables t → get_or t.by_applicants.rankings p [] ≡ (program_of (registered_of t).market p).ranking
+ranking_at t p h = ap (λ (x : Program). x.ranking) (sym (program_at t.quotas.items t.by_applicants.rankings p h.rankings))
 
-pub first_at : (t : Tables) (c : ℕ) → AreTables t → (get_or t.members.items c (0, 0)).0 ≡ (couple_of (registered_of t).market c).first
-first_at t c h = ap (λ (x : Partners). x.first) (sym (couple_at t.members.items t.pairs c h.pairs))
+pub first_at : (t : Tables) (c : ℕ) → AreTables t → (get_or t.by_applicants.members.items c (0, 0)).0 ≡ (couple_of (registered_of t).market c).first
+first_at t c h = ap (λ (x : Partners). x.first) (sym (couple_at t.by_applicants.members.items t.by_programs.pairs c h.pairs))
 
-pub second_at : (t : Tables) (c : ℕ) → AreTables t → (get_or t.members.items c (0, 0)).1 ≡ (couple_of (registered_of t).market c).second
-second_at t c h = ap (λ (x : Partners). x.second) (sym (couple_at t.members.items t.pairs c h.pairs))
+pub second_at : (t : Tables) (c : ℕ) → AreTables t → (get_or t.by_applicants.members.items c (0, 0)).1 ≡ (couple_of (registered_of t).market c).second
+second_at t c h = ap (λ (x : Partners). x.second) (sym (couple_at t.by_applicants.members.items t.by_programs.pairs c h.pairs))
 
-pub pairs_at : (t : Tables) (c : ℕ) → AreTables t → get_or t.pairs c [] ≡ (couple_of (registered_of t).market c).pairs
-pairs_at t c h = ap (λ (x : Partners). x.pairs) (sym (couple_at t.members.items t.pairs c h.pairs))
+pub pairs_at : (t : Tables) (c : ℕ) → AreTables t → get_or t.by_programs.pairs c [] ≡ (couple_of (registered_of t).market c).pairs
+pairs_at t c h = ap (λ (x : Partners). x.pairs) (sym (couple_at t.by_applicants.members.items t.by_programs.pairs c h.pairs))
 
 pub agent_at : (t : Tables) (a : ℕ) (d : Agent) → AreTables t → a < applicants (registered_of t).market → get_or t.agents.items a d ≡ agent_of (registered_of t).market a
-agent_at t a d h i = ap (λ xs. get_or xs a d) h.agents ∙ map_below_at (agent_of (registered_of t).market) (length t.lists) a d i
+agent_at t a d h i = ap (λ xs. get_or xs a d) h.agents ∙ map_below_at (agent_of (registered_of t).market) (length t.by_programs.lists) a d i

@@ -20,14 +20,14 @@ couples_with (x ∷ xs) (p ∷ ps) = record { first = x.0; second = x.1; pairs =
 -- the market that tables show, with its ids
 abbrev pub registered_of : Tables → Registered
 registered_of t = record {
-  market = record { programs = programs_with t.quotas.items t.rankings; lists = t.lists; couples = couples_with t.members.items t.pairs };
+  market = record { programs = programs_with t.quotas.items t.by_applicants.rankings; lists = t.by_programs.lists; couples = couples_with t.by_applicants.members.items t.by_programs.pairs };
   names = record { programs = t.program_ids; applicants = t.applicant_ids; couples = t.couple_ids };
 }
 
 -- The two tables of programs have one length, and so have the two of couples. Each applicant's agent is the
 -- one that the market gives it. The market is a registration.
 pub record AreTables (t : Tables) : Type 0 where
-  pub rankings : length t.rankings ≡ length t.quotas.items
-  pub pairs : length t.pairs ≡ length t.members.items
-  pub agents : t.agents.items ≡ map (agent_of (registered_of t).market) (below (length t.lists))
+  pub rankings : length t.by_applicants.rankings ≡ length t.quotas.items
+  pub pairs : length t.by_programs.pairs ≡ length t.by_applicants.members.items
+  pub agents : t.agents.items ≡ map (agent_of (registered_of t).market) (below (length t.by_programs.lists))
   pub registration : IsRegistration (registered_of t)

@@ -4,4 +4,4 @@
 mod tables;
 
 pub use mt_flat::{ChunkedLists, FlatLists};
-pub use tables::{Roster, Tables};
+pub use tables::{ByApplicants, ByPrograms, Roster, Tables};

@@ -8,21 +8,33 @@ use mt_flat::{ChunkedLists, FlatLists};
 use mt_terms::{Agent, AppNo, CoupleNo, ProgNo};
 use std::marker::Model;
 
+/// What a market says by the numbers of applicants.
+#[derive(Drop)]
+pub struct ByApplicants {
+    /// The applicants that each program lists, the most wanted first.
+    pub rankings: ChunkedLists<AppNo>,
+    /// The two members of each couple, in the order of its pairs.
+    pub members: Vec<(AppNo, AppNo)>,
+}
+
+/// What a market says by the numbers of programs.
+#[derive(Drop)]
+pub struct ByPrograms {
+    /// The programs that each applicant lists as a single, the most wanted first.
+    pub lists: ChunkedLists<ProgNo>,
+    /// The pairs that each couple lists, the most wanted first.
+    pub pairs: ChunkedLists<(Option<ProgNo>, Option<ProgNo>)>,
+}
+
 /// A market by number: programs with quotas and rank order lists, singles with theirs, and couples with their members
 /// and lists of pairs. It also has the ids of all.
 pub struct Tables {
     /// The posts of each program.
     pub quotas: Vec<u32>,
-    /// The applicants that each program lists, the most wanted first.
-    pub rankings: ChunkedLists<AppNo>,
-    /// The programs that each applicant lists as a single, the most wanted first.
-    pub lists: ChunkedLists<ProgNo>,
     /// The agent that each applicant belongs to.
     pub agents: Vec<Agent>,
-    /// The two members of each couple, in the order of its pairs.
-    pub members: Vec<(AppNo, AppNo)>,
-    /// The pairs that each couple lists, the most wanted first.
-    pub pairs: ChunkedLists<(Option<ProgNo>, Option<ProgNo>)>,
+    pub by_applicants: ByApplicants,
+    pub by_programs: ByPrograms,
     /// The ids of the programs.
     pub program_ids: FlatLists<u8>,
     /// The ids of the applicants.
@@ -35,11 +47,9 @@ impl Drop for Tables {
     fn drop(self) {
         let Tables {
             quotas: _,
-            rankings: _,
-            lists: _,
             agents: _,
-            members: _,
-            pairs: _,
+            by_applicants: _,
+            by_programs: _,
             program_ids: _,
             applicant_ids: _,
             couple_ids: _,
@@ -103,7 +113,7 @@ impl Roster {
         ensures count { result ≡ length self.now.market.couples }
         ensures registration { IsRegistration self.now }
     {
-        self.tables.members.len() as u32
+        self.tables.by_applicants.members.len() as u32
     }
 
     /// The program's id.
@@ -143,7 +153,7 @@ impl Roster {
         requires { program < length self.now.market.programs }
         ensures { result.now ≡ (program_of self.now.market program).ranking }
     {
-        self.tables.rankings.list(program.index())
+        self.tables.by_applicants.rankings.list(program.index())
     }
 
     /// The agent that the applicant belongs to: its couple, or itself.
@@ -159,7 +169,7 @@ impl Roster {
         requires { applicant < applicants self.now.market }
         ensures { result.now ≡ list_of self.now.market applicant }
     {
-        self.tables.lists.list(applicant.index())
+        self.tables.by_programs.lists.list(applicant.index())
     }
 
     /// The couple's two members, in the order of its pairs.
@@ -168,7 +178,7 @@ impl Roster {
         ensures first { result.0 ≡ (couple_of self.now.market couple).first }
         ensures second { result.1 ≡ (couple_of self.now.market couple).second }
     {
-        self.tables.members[couple.index()]
+        self.tables.by_applicants.members[couple.index()]
     }
 
     /// The pairs that the couple lists, the most wanted first: a place for each member, with none for a member that
@@ -177,6 +187,6 @@ impl Roster {
         requires { couple < length self.now.market.couples }
         ensures { result.now ≡ (couple_of self.now.market couple).pairs }
     {
-        self.tables.pairs.list(couple.index())
+        self.tables.by_programs.pairs.list(couple.index())
     }
 }

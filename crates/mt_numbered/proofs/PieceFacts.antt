@@ -14,7 +14,8 @@ use Rattle.mt_id_lists.proofs.MetFacts.{stands_from, stands_from-once}
 use Rattle.mt_id_lists.proofs.ReadingSteps.{both, ids_are_read, one_seen}
 use Rattle.mt_id_lists.specs.Reading.{with_more, with_kept, ids_stand, ids_read, ReadsOne}
 use Rattle.mt_flat.specs.FlatLists.{with_last}
-use Rattle.mt_numbered.specs.declared.numbered.IdList.{IdList}
+use Rattle.std.specs.Borrow.{Bor}
+use Rattle.mt_lists.specs.declared.row.Fields.{Fields}
 use Rattle.mt_numbered.specs.IdLists.{ids_in, list_seen}
 use Rattle.mt_numbered.specs.declared.pieces.Piece.{Piece}
 use Rattle.mt_numbered.specs.Pieces.{piece_ids, piece_stands, piece_read}
@@ -135,12 +136,12 @@ module _ {X : Type 0} (n : Numbering X) where
   numbers_at-none true left lists none = rw none refl
 
   -- a list whose places are known is read
-  pub list_is_read : (list : IdList) (places : List ℕ) (old begun new : List (List X)) (found : Bool) → ArePlaces n.ids (ids_in list.fields) places
-      → begun ≡ old ++ (if list.kept then [] ∷ [] else []) → ReadsPlaces n list.kept places begun new found
+  pub list_is_read : (list : Option (Bor Fields) × Bool) (places : List ℕ) (old begun new : List (List X)) (found : Bool) → ArePlaces n.ids (ids_in list.0) places
+      → begun ≡ old ++ (if list.1 then [] ∷ [] else []) → ReadsPlaces n list.1 places begun new found
       → ReadsOne (λ l. ids_stand n (list_seen l)) (λ l. ids_read n (list_seen l)) list old new found
   list_is_read list places old begun new found are begins reads =
-      one_seen list_seen (ids_stand n) (ids_read n) list (list.kept, ids_in list.fields) old new found refl
-      (ids_are_read n list.kept (ids_in list.fields) old begun new found begins (reads (ids_in list.fields) are))
+      one_seen list_seen (ids_stand n) (ids_read n) list (list.1, ids_in list.0) old new found refl
+      (ids_are_read n list.1 (ids_in list.0) old begun new found begins (reads (ids_in list.0) are))
 
   pub numbers-by : (list : List Bytes) (places : List ℕ) → ArePlaces n.ids list places → numbers_at n places ≡ numbers_by n list
   numbers-by list places are = ap (numbers_at n) are.1 ∙ numbers_at-by list

@@ -6,7 +6,6 @@ use Rattle.mt_lists.specs.Rows.{fields_left}
 use Rattle.mt_lists.specs.declared.row.Fields.{Fields}
 use Rattle.mt_terms.specs.Lists.{below}
 use Rattle.mt_terms.specs.Registration.Ids.{Bytes}
-use Rattle.mt_numbered.specs.declared.numbered.IdList.{IdList}
 
 -- the ids that fields are, if there are any fields
 abbrev pub ids_in : Option (Bor Fields) → List Bytes
@@ -14,8 +13,8 @@ ids_in None = []
 ids_in (Some fields) = fields_left fields.now
 
 -- a list of fields as a list of ids, and whether it is kept
-abbrev pub list_seen : IdList → Bool × List Bytes
-list_seen list = (list.kept, ids_in list.fields)
+abbrev pub list_seen : Option (Bor Fields) × Bool → Bool × List Bytes
+list_seen list = (list.1, ids_in list.0)
 
 -- the new numbers of a count of ids: those of a vector, or their places if there is none
 abbrev pub numbers_seen : {X : Type 0} → (ℕ → X) → ℕ → Option (Vec (Option X) Global) → List (Option X)

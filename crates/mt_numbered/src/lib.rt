@@ -4,5 +4,5 @@
 mod numbered;
 mod pieces;
 
-pub use numbered::{IdList, Numbered, begin_list};
+pub use numbered::{Numbered, begin_list};
 pub use pieces::read_id_lists;

@@ -38,14 +38,6 @@ impl<'a, T: Number> Model for Numbered<'a, T> {
     ghost invariant = { λ n. AreFor (length n.ids) n.numbers };
 }
 
-/// A list of ids to be read. The ids of a list that isn't kept are looked up, and that is all.
-#[derive(Clone, Copy)]
-pub struct IdList<'r, 'a> {
-    /// The ids, if there are any.
-    pub fields: Option<&'r Fields<'a>>,
-    pub kept: bool,
-}
-
 /// Begins a list at the end of these, if it is kept.
 pub fn begin_list<T>(lists: &mut FlatLists<T>, kept: bool) -> Result<(), AllocError>
     ensures { OnOk result (lists.new ≡ lists.old ++ (if kept then [] ∷ [] else [])) }
@@ -169,7 +161,9 @@ impl<'a, T: Number> Numbered<'a, T> {
     }
 }
 
-impl<'r, 'a, 'n, T: Number + Send + Sync> ListReader<IdList<'r, 'a>, Met> for Numbered<'n, T> {
+// Of a list's ids, if it has any, and of whether it is kept. Those of a list that isn't are looked up, and that is all.
+impl<'r, 'a, 'n, T: Number + Send + Sync> ListReader<(Option<&'r Fields<'a>>, bool), Met>
+    for Numbered<'n, T> {
     ghost use Rattle.std.specs.Prelude.{◌≡◌, length};
     ghost use Rattle.mt_lists.specs.Rows.{fields_left};
     ghost use Rattle.mt_id_lists.specs.Reading.{ids_stand, ids_read};
@@ -185,8 +179,8 @@ impl<'r, 'a, 'n, T: Number + Send + Sync> ListReader<IdList<'r, 'a>, Met> for Nu
 
     ghost fits = { λ n met. length met ≡ length n.ids };
 
-    fn entries(&self, list: &IdList<'r, 'a>) -> usize {
-        match list.fields {
+    fn entries(&self, list: &(Option<&'r Fields<'a>>, bool)) -> usize {
+        match list.0 {
             Some(fields) => fields.len(),
             None => 0,
         }
@@ -201,13 +195,13 @@ impl<'r, 'a, 'n, T: Number + Send + Sync> ListReader<IdList<'r, 'a>, Met> for Nu
         alloc: Global,
         lists: &mut FlatLists<T>,
         met: &mut Met,
-        list: &IdList<'r, 'a>,
+        list: &(Option<&'r Fields<'a>>, bool),
     ) -> Result<bool, AllocError> {
-        begin_list(lists, list.kept)?;
-        match list.fields {
+        begin_list(lists, list.1)?;
+        match list.0 {
             Some(fields) => {
                 met.begin(alloc)?;
-                self.push_ids(lists, met, list.kept, *fields)
+                self.push_ids(lists, met, list.1, *fields)
             }
             None => Ok(true),
         }

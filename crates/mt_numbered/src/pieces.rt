@@ -8,7 +8,7 @@ ghost use Rattle.mt_numbered.specs.IdLists.{ids_in, list_seen};
 ghost use Rattle.mt_numbered.specs.Pieces.{piece_ids};
 ghost use Rattle.mt_numbered.specs.Places.{FindsPlaces, ReadsPlaces};
 
-use crate::numbered::{IdList, Numbered, begin_list};
+use crate::numbered::{Numbered, begin_list};
 use mt_flat::{ChunkedLists, FlatLists};
 use mt_id_lists::{ListReader, Met, Number, read_lists};
 use mt_lists::Fields;
@@ -131,16 +131,16 @@ fn joined(alloc: Global, lists: &ChunkedLists<u32>, count: usize) -> Result<Vec<
 }
 
 impl<'n, 'a, T: Number + Send + Sync> PlaceReader<'n, 'a, T> {
-    /// The places of a list's ids, if each is one of these.
+    /// The places of a list's ids, if it has any and each is one of these.
     fn places<R: Threads + Sync>(
         &self,
         rt: &R,
         alloc: Global,
-        list: &IdList<'_, '_>,
+        ids: Option<&Fields<'_>>,
     ) -> Result<Option<Vec<u32>>, AllocError>
-        ensures { IfOk result (FindsPlaces self.now (ids_in list.now.fields)) }
+        ensures { IfOk result (FindsPlaces self.now (ids_in ids.entry)) }
     {
-        let Some(fields) = list.fields else {
+        let Some(fields) = ids else {
             return Ok(Some(Vec::new(alloc)));
         };
         let pieces = pieces_of(alloc, *fields)?;
@@ -179,10 +179,10 @@ fn push_places<T: Number>(
 }
 
 /// How many entries lists have.
-fn total_entries(lists: &[IdList<'_, '_>]) -> usize {
+fn total_entries(lists: &[(Option<&Fields<'_>>, bool)]) -> usize {
     let mut entries: usize = 0;
     for list in lists {
-        if let Some(fields) = list.fields {
+        if let Some(fields) = list.0 {
             entries = entries.saturating_add(fields.len());
         }
     }
@@ -190,10 +190,10 @@ fn total_entries(lists: &[IdList<'_, '_>]) -> usize {
 }
 
 /// How many entries the longest list has.
-fn longest_of(lists: &[IdList<'_, '_>]) -> usize {
+fn longest_of(lists: &[(Option<&Fields<'_>>, bool)]) -> usize {
     let mut longest: usize = 0;
     for list in lists {
-        if let Some(fields) = list.fields {
+        if let Some(fields) = list.0 {
             longest = longest.max(fields.len());
         }
     }
@@ -202,7 +202,7 @@ fn longest_of(lists: &[IdList<'_, '_>]) -> usize {
 
 /// Whether lists are read sooner in pieces: there are fewer than processors, and one has half of their many entries.
 /// Several lists of one length are read side by side as they are.
-fn are_worth_pieces<R: Threads>(rt: &R, lists: &[IdList<'_, '_>]) -> bool {
+fn are_worth_pieces<R: Threads>(rt: &R, lists: &[(Option<&Fields<'_>>, bool)]) -> bool {
     if lists.len() >= current_num_threads(rt) {
         return false;
     }
@@ -215,7 +215,7 @@ fn read_in_pieces<R: Threads + Sync, T: Number + Send + Sync>(
     rt: &R,
     alloc: Global,
     ids: &Numbered<'_, T>,
-    lists: &[IdList<'_, '_>],
+    lists: &[(Option<&Fields<'_>>, bool)],
 ) -> Result<Option<ChunkedLists<T>>, AllocError>
     requires { length ids.now.ids < 2 ^ 32 }
     ensures { IfOk result (ReadsAll (λ list. ids_stand ids.now (list_seen list))
@@ -225,24 +225,25 @@ fn read_in_pieces<R: Threads + Sync, T: Number + Send + Sync>(
     let mut met = Met::new(alloc, ids.len())?;
     let reader = PlaceReader { numbered: ids };
     for list in lists {
-        let Some(places) = reader.places(rt, alloc, list)? else {
+        let Some(places) = reader.places(rt, alloc, list.0)? else {
             return Ok(None);
         };
-        begin_list(&mut read, list.kept)?;
+        begin_list(&mut read, list.1)?;
         met.begin(alloc)?;
-        if !push_places(ids, &mut read, &mut met, list.kept, &places)? {
+        if !push_places(ids, &mut read, &mut met, list.1, &places)? {
             return Ok(None);
         }
     }
     Ok(Some(ChunkedLists::of(alloc, read)?))
 }
 
-/// Lists by numbers, if each stands. Whole lists are read side by side, and long ones in pieces if there are few.
+/// Lists by numbers, if each stands. A list is its ids, if it has any, and whether it is kept. Whole lists are read side
+/// by side, and long ones in pieces if there are few.
 pub fn read_id_lists<R: Threads + Sync, T: Number + Send + Sync>(
     rt: &R,
     alloc: Global,
     ids: &Numbered<'_, T>,
-    lists: Vec<IdList<'_, '_>>,
+    lists: Vec<(Option<&Fields<'_>>, bool)>,
 ) -> Result<Option<ChunkedLists<T>>, AllocError>
     ensures { IfOk result (ReadsAll (λ list. ids_stand ids.now (list_seen list))
         (λ list. ids_read ids.now (list_seen list)) lists.entry.items) }

@@ -22,7 +22,6 @@ use Rattle.mt_record_laws.proofs.IdFacts.{differ_parts, neither, itself, or_left
 use Rattle.mt_terms.proofs.IdFacts.{same_id}
 use Rattle.mt_draft_laws.proofs.StayingFacts.{remaining_is, program_ids_stay, applicant_ids_stay, length-program_flags, length-applicant_flags, length-new_numbers, new_number, numbers_stay, pairs_stay}
 use Rattle.mt_drafts.specs.declared.names.NameLists.{NameLists}
-use Rattle.mt_numbering.specs.declared.entries.Entries.{Entries}
 use Rattle.mt_records.specs.declared.record.Record.{Record as Checked}
 use Rattle.mt_ids.specs.declared.kinds.Kinds.{Kinds}
 use Rattle.mt_records.specs.Limits.{AreBounded}
@@ -38,8 +37,8 @@ use Rattle.mt_id_lists.specs.Reading.{ids_read, ids_stand, ReadsAll}
 use Rattle.mt_numbering.specs.Registered.{is_registered}
 use Rattle.mt_numbering.specs.Withdrawals.{are_once, are_registered, stays_after, AreWithdrawn}
 use Rattle.mt_numbering.specs.Sides.{applicants_stand, programs_stand, GivesByApplicants, GivesByPrograms}
-use Rattle.mt_numbering.specs.declared.entries.ByApplicants.{ByApplicants}
-use Rattle.mt_numbering.specs.declared.entries.ByPrograms.{ByPrograms}
+use Rattle.mt_market.specs.declared.tables.ByApplicants.{ByApplicants}
+use Rattle.mt_market.specs.declared.tables.ByPrograms.{ByPrograms}
 use Rattle.mt_numbering.proofs.EntryFacts.{rankings_stand, choices_stand, couples_stand}
 use Rattle.mt_records.proofs.FieldFacts.{right_fails}
 use Rattle.mt_pair_lists.proofs.PairSteps.{all_only}
@@ -290,7 +289,7 @@ module _ (rules : Rules) (rs : List Record) (few : are_too_many rules.limits rs 
 
   -- what remains of the records, by what their lists say
   pub remains : (w : Kinds) → AreWithdrawn rs w → are_registered rs ≡ true → (left : List Record) → left ≡ filter (stays_after w) rs
-      → (e : Kinds × Entries) → GivesEntries rules.half_pairs (stays_after w) rs (Some e) → Remains rules rs left (Some e.1)
+      → (e : Kinds × (ByApplicants × ByPrograms)) → GivesEntries rules.half_pairs (stays_after w) rs (Some e) → Remains rules rs left (Some e.1)
   remains w are known left is e gives = (
     faultless_by_steps rules rs few ∙ both _ _ (both _ _ gives.1.differ gives.0) (both _ _ are.once known),
     is ∙ remaining_are rs w are,
@@ -298,7 +297,7 @@ module _ (rules : Rules) (rs : List Record) (few : are_too_many rules.limits rs 
   )
 
 -- what was found of the records that remain
-pub remains_found : (rules : Rules) (rs left : List Record) (o : Option Entries) (e : Entries) → Remains rules rs left o → o ≡ Some e
+pub remains_found : (rules : Rules) (rs left : List Record) (o : Option (ByApplicants × ByPrograms)) (e : ByApplicants × ByPrograms) → Remains rules rs left o → o ≡ Some e
     → (is_faultless rules rs ≡ true) × (left ≡ remaining rs) × AreEntries left e
 remains_found rules rs left o e h is = subst (Remains rules rs left) is h
 
@@ -317,10 +316,10 @@ module _ (stays : Record → Bool) (rs : List Record) where
         right_fails (all_differ bytes_eq (applicant_ids rs)) _ (sym among_applicants ∙ fail)
 
     pub given_by_applicants : n.numbers ≡ new_numbers 0 (applicant_flags stays rs) → all_differ bytes_eq (applicant_ids rs) ≡ true
-        → (b : ByApplicants) → b.ids ≡ n.ids → (o : Option (List (List ℕ))) → o ≡ Some b.rankings → Rankings o
-        → b.members.items ≡ filter_map (members_by n) (filter stays rs) → GivesByApplicants stays rs (Some b)
+        → (b : List Bytes × ByApplicants) → b.0 ≡ n.ids → (o : Option (List (List ℕ))) → o ≡ Some b.1.rankings → Rankings o
+        → b.1.members.items ≡ filter_map (members_by n) (filter stays rs) → GivesByApplicants stays rs (Some b)
     given_by_applicants numbers differ b same o is reads members =
-        let read : Rankings (Some b.rankings) = subst Rankings is reads in
+        let read : Rankings (Some b.1.rankings) = subst Rankings is reads in
         let all : list_all (ranking_stands (applicant_ids rs)) rs ≡ true = sym among_applicants ∙ read.0 in
         let flags = applicant_flags stays rs in
         let stay = filter stays rs in
@@ -373,11 +372,11 @@ module _ (stays : Record → Bool) (rs : List Record) where
         by false b c e = refl
 
     pub given_by_programs : n.numbers ≡ new_numbers 0 (program_flags stays rs) → all_differ bytes_eq (ids_of OfProgram rs) ≡ true
-        → (b : ByPrograms) → b.ids ≡ n.ids → (o : Option (List (List ℕ))) → o ≡ Some b.lists → Lists o → (q : Option (List (List Pair))) → q ≡ Some b.pairs → Couples q
+        → (b : List Bytes × ByPrograms) → b.0 ≡ n.ids → (o : Option (List (List ℕ))) → o ≡ Some b.1.lists → Lists o → (q : Option (List (List Pair))) → q ≡ Some b.1.pairs → Couples q
         → GivesByPrograms half_pairs stays rs (Some b)
     given_by_programs numbers differ b same o is lists q so pairs =
-        let read : Lists (Some b.lists) = subst Lists is lists in
-        let both_read : Couples (Some b.pairs) = subst Couples so pairs in
+        let read : Lists (Some b.1.lists) = subst Lists is lists in
+        let both_read : Couples (Some b.1.pairs) = subst Couples so pairs in
         let all : list_all (list_stands (ids_of OfProgram rs)) rs ≡ true = sym among_programs ∙ read.0 in
         let each : list_all (pairs_stand half_pairs (ids_of OfProgram rs)) rs ≡ true = sym pairs_among ∙ both_read.0 in
         let flags = program_flags stays rs in
@@ -426,15 +425,15 @@ module _ (half_pairs : Bool) (stays : Record → Bool) (rs : List Record) where
       by true b c e = rw e refl
       by false b c e = refl
 
-  pub given_by_both : (a : ByApplicants) (b : ByPrograms) → GivesByApplicants stays rs (Some a) → GivesByPrograms half_pairs stays rs (Some b)
-      → (e : Kinds × Entries) → e.0.applicants ≡ a.ids → e.0.programs ≡ b.ids → e.0.couples ≡ ids_of OfCouple rs → all_differ bytes_eq (ids_of OfCouple rs) ≡ true
-      → e.1.rankings ≡ a.rankings → e.1.members.items ≡ a.members.items → e.1.lists ≡ b.lists → e.1.pairs ≡ b.pairs → GivesEntries half_pairs stays rs (Some e)
-  given_by_both a b first second e applicants programs couples differ rankings members lists pairs =
+  pub given_by_both : (a : List Bytes × ByApplicants) (b : List Bytes × ByPrograms) → GivesByApplicants stays rs (Some a) → GivesByPrograms half_pairs stays rs (Some b)
+      → (couples : List Bytes) → couples ≡ ids_of OfCouple rs → all_differ bytes_eq (ids_of OfCouple rs) ≡ true
+      → GivesEntries half_pairs stays rs (Some (record { programs = b.0; applicants = a.0; couples = couples }, (a.1, b.1)))
+  given_by_both a b first second couples are differ =
       let all : stand ≡ true = stand_by ∙ both _ _ (both _ _ first.0 second.0) differ in
       let parts = and_parts (ids_differ rs) _ all in (
         parts.1,
-        record { programs = programs ∙ second.1.ids; applicants = applicants ∙ first.1.ids; couples = couples; differ = parts.0 },
-        record { rankings = rankings ∙ first.1.rankings; lists = lists ∙ second.1.lists; pairs = pairs ∙ second.1.pairs; members = members ∙ first.1.members },
+        record { programs = second.1.ids; applicants = first.1.ids; couples = are; differ = parts.0 },
+        record { rankings = first.1.rankings; lists = second.1.lists; pairs = second.1.pairs; members = first.1.members },
       )
 
 -- the ids that a table was made of, if they differ
@@ -460,7 +459,7 @@ long_applicants stays rs ids numbers are new = ap length new ∙ length-new_numb
 pub once_found : (ws : List Checked) (o : Option Kinds) (w : Kinds) → MatchOption o (are_once (all_seen ws) ≡ false) (AreWithdrawn (all_seen ws)) → o ≡ Some w → AreWithdrawn (all_seen ws) w
 once_found ws o w h is = subst (λ (x : Option Kinds). MatchOption x (are_once (all_seen ws) ≡ false) (AreWithdrawn (all_seen ws))) is h
 
-pub read_found : (given records : List Checked) (inside rules : Rules) (w : Kinds) (o p : Option (Kinds × Entries)) → given ≡ records → inside ≡ rules → o ≡ p
+pub read_found : (given records : List Checked) (inside rules : Rules) (w : Kinds) (o p : Option (Kinds × (ByApplicants × ByPrograms))) → given ≡ records → inside ≡ rules → o ≡ p
     → GivesEntries inside.half_pairs (stays_after w) (all_seen given) o → GivesEntries rules.half_pairs (stays_after w) (all_seen records) p
 read_found given records inside rules w o p e f is gives =
     subst (GivesEntries rules.half_pairs (stays_after w) (all_seen records)) is

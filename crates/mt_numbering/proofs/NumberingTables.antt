@@ -13,7 +13,8 @@ use Rattle.mt_terms.specs.Registration.Accepted.{IsRegistration}
 use Rattle.mt_terms.proofs.BelowFacts.{length-map_below, map_below_at}
 use Rattle.mt_terms.proofs.ListFacts.{take_whole}
 use Rattle.mt_market.specs.Tables.{programs_with, couples_with, registered_of, AreTables}
-use Rattle.mt_numbering.specs.declared.entries.Entries.{Entries}
+use Rattle.mt_market.specs.declared.tables.ByApplicants.{ByApplicants}
+use Rattle.mt_market.specs.declared.tables.ByPrograms.{ByPrograms}
 use Rattle.mt_drafts.specs.declared.names.NameLists.{NameLists}
 use Rattle.mt_drafts.specs.Names.{AreNames}
 use Rattle.mt_numbering.specs.Markets.{AreEntries}
@@ -137,11 +138,11 @@ agents_down members number n d e items before after len some h within was same i
 -- The tables have these records' quotas, lists, members, pairs and ids, and agents by the members.
 pub record AreMade (t : Tables) (rs : List Record) : Type 0 where
   pub quotas : t.quotas.items ≡ filter_map quota_in rs
-  pub rankings : t.rankings ≡ filter_map (ranking_in (applicant_ids rs)) rs
-  pub lists : t.lists ≡ flat_map (lists_by (ids_of OfProgram rs)) rs
-  pub agents : t.agents.items ≡ map (agent_from (bare_couples t.members.items) 0) (below (length (applicant_ids rs)))
-  pub members : t.members.items ≡ filter_map (members_in (applicant_ids rs)) rs
-  pub pairs : t.pairs ≡ filter_map (pairs_in (ids_of OfProgram rs)) rs
+  pub rankings : t.by_applicants.rankings ≡ filter_map (ranking_in (applicant_ids rs)) rs
+  pub lists : t.by_programs.lists ≡ flat_map (lists_by (ids_of OfProgram rs)) rs
+  pub agents : t.agents.items ≡ map (agent_from (bare_couples t.by_applicants.members.items) 0) (below (length (applicant_ids rs)))
+  pub members : t.by_applicants.members.items ≡ filter_map (members_in (applicant_ids rs)) rs
+  pub pairs : t.by_programs.pairs ≡ filter_map (pairs_in (ids_of OfProgram rs)) rs
   pub program_ids : t.program_ids ≡ ids_of OfProgram rs
   pub applicant_ids : t.applicant_ids ≡ applicant_ids rs
   pub couple_ids : t.couple_ids ≡ ids_of OfCouple rs
@@ -187,13 +188,13 @@ module _ (rs : List Record) (r : IsRegistration (registered_by_all rs)) where
       rw same (omega arith, omega arith)
 
   module _ (t : Tables) (made : AreMade t rs) where
-    programs_seen : programs_with t.quotas.items t.rankings ≡ market.programs
+    programs_seen : programs_with t.quotas.items t.by_applicants.rankings ≡ market.programs
     programs_seen = rw (made.quotas, made.rankings) (programs_of_tables (names_of rs) rs)
 
-    couples_seen : couples_with t.members.items t.pairs ≡ market.couples
+    couples_seen : couples_with t.by_applicants.members.items t.by_programs.pairs ≡ market.couples
     couples_seen = rw (made.members, made.pairs) couples_are
 
-    lists_seen : t.lists ≡ market.lists
+    lists_seen : t.by_programs.lists ≡ market.lists
     lists_seen = made.lists ∙ lists_of_table (names_of rs) rs
 
     pub tables_seen : registered_of t ≡ registered_by_all rs
@@ -202,10 +203,10 @@ module _ (rs : List Record) (r : IsRegistration (registered_by_all rs)) where
       names = record { programs = made.program_ids i; applicants = made.applicant_ids i; couples = made.couple_ids i };
     }
 
-    long_pairs : length t.pairs ≡ length t.members.items
+    long_pairs : length t.by_programs.pairs ≡ length t.by_applicants.members.items
     long_pairs = ap length made.pairs ∙ length-pairs (names_of rs) rs ∙ sym (ap length made.members)
 
-    long_lists : length (applicant_ids rs) ≡ length t.lists
+    long_lists : length (applicant_ids rs) ≡ length t.by_programs.lists
     long_lists = r.applicant_names.one_each ∙ sym (ap length lists_seen)
 
     pub tables_are : AreTables t
@@ -213,32 +214,30 @@ module _ (rs : List Record) (r : IsRegistration (registered_by_all rs)) where
       rankings = ap length made.rankings ∙ length-rankings (names_of rs) rs ∙ sym (ap length made.quotas);
       pairs = long_pairs;
       agents = made.agents
-          ∙ map_agree _ _ (below (length (applicant_ids rs))) (λ a. agent_from-bare t.members.items t.pairs 0 a long_pairs)
+          ∙ map_agree _ _ (below (length (applicant_ids rs))) (λ a. agent_from-bare t.by_applicants.members.items t.by_programs.pairs 0 a long_pairs)
           ∙ ap (λ n. map (agent_of (registered_of t).market) (below n)) long_lists;
       registration = subst IsRegistration (sym tables_seen) r;
     }
 
 -- the tables that are made from names and entries
-abbrev pub tables_with : NameLists → Entries → Vec ℕ Global → Vec Agent Global → Tables
+abbrev pub tables_with : NameLists → ByApplicants × ByPrograms → Vec ℕ Global → Vec Agent Global → Tables
 tables_with names e quotas agents = record {
   quotas = quotas;
-  rankings = e.rankings;
-  lists = e.lists;
   agents = agents;
-  members = e.members;
-  pairs = e.pairs;
+  by_applicants = e.0;
+  by_programs = e.1;
   program_ids = names.programs;
   applicant_ids = names.applicants;
   couple_ids = names.couples;
 }
 
 -- with agents by the members and by the number of applicants
-pub made_by : (rs : List Record) (names : NameLists) (e : Entries) (quotas : Vec ℕ Global) (agents : Vec Agent Global) (given : List (ℕ × ℕ)) (n : ℕ)
+pub made_by : (rs : List Record) (names : NameLists) (e : ByApplicants × ByPrograms) (quotas : Vec ℕ Global) (agents : Vec Agent Global) (given : List (ℕ × ℕ)) (n : ℕ)
     → AreNames rs names
     → AreEntries rs e
     → quotas.items ≡ filter_map quota_in rs
     → n ≡ length names.applicants
-    → given ≡ e.members.items
+    → given ≡ e.0.members.items
     → agents.items ≡ map (agent_from (bare_couples given) 0) (below n)
     → AreMade (tables_with names e quotas agents) rs
 made_by rs names e quotas agents given n are by q count same g = record {

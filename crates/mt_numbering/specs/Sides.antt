@@ -5,8 +5,8 @@ use Rattle.mt_draft_laws.specs.Faultless.{ranking_stands, list_stands, pairs_sta
 use Rattle.mt_terms.specs.Registration.Ids.{Bytes, all_differ}
 use Rattle.mt_terms.specs.Registration.Records.{Record, OfProgram}
 use Rattle.mt_terms.specs.Registration.Rows.{ids_of, applicant_ids}
-use Rattle.mt_numbering.specs.declared.entries.ByApplicants.{ByApplicants}
-use Rattle.mt_numbering.specs.declared.entries.ByPrograms.{ByPrograms}
+use Rattle.mt_market.specs.declared.tables.ByApplicants.{ByApplicants}
+use Rattle.mt_market.specs.declared.tables.ByPrograms.{ByPrograms}
 use Rattle.mt_numbering.specs.Numbered.{members_in, ranking_in, lists_by, pairs_in}
 
 -- whether no two applicants have one id, and each program's list names applicants alone, none of them twice
@@ -20,23 +20,23 @@ programs_stand half_pairs rs =
     && list_all (pairs_stand half_pairs (ids_of OfProgram rs)) rs
 
 -- The ids are those of all applicants, and this is what the records that stay say by the applicants among them.
-pub record AreByApplicants (stays : Record → Bool) (rs : List Record) (b : ByApplicants) : Type 0 where
-  pub ids : b.ids ≡ applicant_ids rs
-  pub rankings : b.rankings ≡ filter_map (ranking_in (applicant_ids (filter stays rs))) (filter stays rs)
-  pub members : b.members.items ≡ filter_map (members_in (applicant_ids (filter stays rs))) (filter stays rs)
+pub record AreByApplicants (stays : Record → Bool) (rs : List Record) (b : List Bytes × ByApplicants) : Type 0 where
+  pub ids : b.0 ≡ applicant_ids rs
+  pub rankings : b.1.rankings ≡ filter_map (ranking_in (applicant_ids (filter stays rs))) (filter stays rs)
+  pub members : b.1.members.items ≡ filter_map (members_in (applicant_ids (filter stays rs))) (filter stays rs)
 
 -- The ids are those of all programs, and this is what the records that stay say by the programs among them.
-pub record AreByPrograms (stays : Record → Bool) (rs : List Record) (b : ByPrograms) : Type 0 where
-  pub ids : b.ids ≡ ids_of OfProgram rs
-  pub lists : b.lists ≡ flat_map (lists_by (ids_of OfProgram (filter stays rs))) (filter stays rs)
-  pub pairs : b.pairs ≡ filter_map (pairs_in (ids_of OfProgram (filter stays rs))) (filter stays rs)
+pub record AreByPrograms (stays : Record → Bool) (rs : List Record) (b : List Bytes × ByPrograms) : Type 0 where
+  pub ids : b.0 ≡ ids_of OfProgram rs
+  pub lists : b.1.lists ≡ flat_map (lists_by (ids_of OfProgram (filter stays rs))) (filter stays rs)
+  pub pairs : b.1.pairs ≡ filter_map (pairs_in (ids_of OfProgram (filter stays rs))) (filter stays rs)
 
 -- All stand, and were read; or one doesn't stand.
-abbrev pub GivesByApplicants : (Record → Bool) → List Record → Option ByApplicants → Type 0
+abbrev pub GivesByApplicants : (Record → Bool) → List Record → Option (List Bytes × ByApplicants) → Type 0
 GivesByApplicants stays rs (Some b) = (applicants_stand rs ≡ true) × AreByApplicants stays rs b
 GivesByApplicants stays rs None = applicants_stand rs ≡ false
 
-abbrev pub GivesByPrograms : Bool → (Record → Bool) → List Record → Option ByPrograms → Type 0
+abbrev pub GivesByPrograms : Bool → (Record → Bool) → List Record → Option (List Bytes × ByPrograms) → Type 0
 GivesByPrograms half_pairs stays rs (Some b) = (programs_stand half_pairs rs ≡ true) × AreByPrograms stays rs b
 GivesByPrograms half_pairs stays rs None = programs_stand half_pairs rs ≡ false
 

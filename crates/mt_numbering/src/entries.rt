@@ -16,7 +16,7 @@ use crate::withdrawals::{numbered_applicants, numbered_programs, stays};
 use mt_drafts::NameLists;
 use mt_id_lists::read_lists;
 use mt_ids::{IdTable, Kinds};
-use mt_market::ChunkedLists;
+use mt_market::{ByApplicants, ByPrograms, ChunkedLists};
 use mt_numbered::{Numbered, read_id_lists};
 use mt_pair_lists::PairReader;
 use mt_records::Record;
@@ -24,33 +24,6 @@ use mt_terms::{AppNo, ProgNo};
 use rayon::current_num_threads;
 use std::alloc::{AllocError, Global};
 use std::thread::{Threads, join};
-
-/// What the lists of records that remain say by new numbers, and their couples' members.
-#[derive(Drop)]
-pub(crate) struct Entries {
-    pub(crate) rankings: ChunkedLists<AppNo>,
-    pub(crate) lists: ChunkedLists<ProgNo>,
-    pub(crate) pairs: ChunkedLists<(Option<ProgNo>, Option<ProgNo>)>,
-    pub(crate) members: Vec<(AppNo, AppNo)>,
-}
-
-/// The ids of all applicants, and what the records that remain say by the new numbers of applicants: the programs'
-/// lists, and the couples' members.
-#[derive(Drop)]
-pub(crate) struct ByApplicants<'n> {
-    pub(crate) ids: IdTable<'n>,
-    pub(crate) rankings: ChunkedLists<AppNo>,
-    pub(crate) members: Vec<(AppNo, AppNo)>,
-}
-
-/// The ids of all programs, and what the records that remain say by the new numbers of programs: the applicants' lists,
-/// and the couples' pairs.
-#[derive(Drop)]
-pub(crate) struct ByPrograms<'n> {
-    pub(crate) ids: IdTable<'n>,
-    pub(crate) lists: ChunkedLists<ProgNo>,
-    pub(crate) pairs: ChunkedLists<(Option<ProgNo>, Option<ProgNo>)>,
-}
 
 /// The fewest records that are worth a thread.
 const FEWEST: usize = 4096;
@@ -130,7 +103,7 @@ fn applicants_side<'n, R: Threads + Sync>(
     alloc: Global,
     names: &'n NameLists,
     listed: &RecordLists<'_, '_>,
-) -> Result<Option<ByApplicants<'n>>, AllocError>
+) -> Result<Option<(IdTable<'n>, ByApplicants)>, AllocError>
     requires names { names.now.applicants ≡ applicant_ids (all_seen listed.now.records.now) }
     requires few { HaveFewApplicants (all_seen listed.now.records.now) }
     ensures { IfOk result (GivesByApplicants (stays_after listed.now.withdrawn.now)
@@ -145,11 +118,8 @@ fn applicants_side<'n, R: Threads + Sync>(
     let Some(rankings) = rankings(rt, alloc, &applicants, listed)? else {
         return Ok(None);
     };
-    Ok(Some(ByApplicants {
-        ids: applicants.into_ids(),
-        rankings,
-        members,
-    }))
+    let by_applicants = ByApplicants { rankings, members };
+    Ok(Some((applicants.into_ids(), by_applicants)))
 }
 
 /// What records say by programs, if no two programs have one id, and each applicant's list and each pair stands.
@@ -159,7 +129,7 @@ fn programs_side<'n, R: Threads + Sync>(
     names: &'n NameLists,
     half_pairs: bool,
     listed: &RecordLists<'_, '_>,
-) -> Result<Option<ByPrograms<'n>>, AllocError>
+) -> Result<Option<(IdTable<'n>, ByPrograms)>, AllocError>
     requires names { names.now.programs ≡ ids_of OfProgram (all_seen listed.now.records.now) }
     requires few { HaveFewPrograms (all_seen listed.now.records.now) }
     ensures { IfOk result (GivesByPrograms half_pairs (stays_after listed.now.withdrawn.now)
@@ -179,11 +149,7 @@ fn programs_side<'n, R: Threads + Sync>(
     let Some(pairs) = pairs(rt, alloc, &reader, listed)? else {
         return Ok(None);
     };
-    Ok(Some(ByPrograms {
-        lists,
-        pairs,
-        ids: programs.into_ids(),
-    }))
+    Ok(Some((programs.into_ids(), ByPrograms { lists, pairs })))
 }
 
 /// What records say by applicants, and what they say by programs, side by side.
@@ -194,8 +160,8 @@ fn both_sides<'n, R: Threads + Sync>(
     half_pairs: bool,
     listed: &RecordLists<'_, '_>,
 ) -> (
-    Result<Option<ByApplicants<'n>>, AllocError>,
-    Result<Option<ByPrograms<'n>>, AllocError>,
+    Result<Option<(IdTable<'n>, ByApplicants)>, AllocError>,
+    Result<Option<(IdTable<'n>, ByPrograms)>, AllocError>,
 )
     requires applicants { names.now.applicants ≡ applicant_ids (all_seen listed.now.records.now) }
     requires programs { names.now.programs ≡ ids_of OfProgram (all_seen listed.now.records.now) }
@@ -206,13 +172,13 @@ fn both_sides<'n, R: Threads + Sync>(
     ensures programs { IfOk result.1 (GivesByPrograms half_pairs (stays_after listed.now.withdrawn.now)
         (all_seen listed.now.records.now)) }
 {
-    let one = || -> Result<Option<ByApplicants<'_>>, AllocError>
+    let one = || -> Result<Option<(IdTable<'_>, ByApplicants)>, AllocError>
         requires { (names.now.applicants ≡ applicant_ids (all_seen listed.now.records.now))
             × HaveFewApplicants (all_seen listed.now.records.now) }
         ensures { IfOk result (GivesByApplicants (stays_after listed.entry.now.withdrawn.now)
             (all_seen listed.entry.now.records.now)) }
     { applicants_side(rt, alloc, names, listed) };
-    let other = || -> Result<Option<ByPrograms<'_>>, AllocError>
+    let other = || -> Result<Option<(IdTable<'_>, ByPrograms)>, AllocError>
         requires { (names.now.programs ≡ ids_of OfProgram (all_seen listed.now.records.now))
             × HaveFewPrograms (all_seen listed.now.records.now) }
         ensures { IfOk result (GivesByPrograms half_pairs (stays_after listed.entry.now.withdrawn.now)
@@ -225,8 +191,8 @@ fn both_sides<'n, R: Threads + Sync>(
 type ByKind<'n> = (
     Result<Option<IdTable<'n>>, AllocError>,
     (
-        Result<Option<ByApplicants<'n>>, AllocError>,
-        Result<Option<ByPrograms<'n>>, AllocError>,
+        Result<Option<(IdTable<'n>, ByApplicants)>, AllocError>,
+        Result<Option<(IdTable<'n>, ByPrograms)>, AllocError>,
     ),
 );
 
@@ -253,8 +219,8 @@ fn ids_and_sides<'n, R: Threads + Sync>(
         ensures { IfOk result (IsTableOf names.entry.now.couples) }
     { IdTable::of(alloc, &names.couples) };
     let both = || -> (
-        Result<Option<ByApplicants<'_>>, AllocError>,
-        Result<Option<ByPrograms<'_>>, AllocError>,
+        Result<Option<(IdTable<'_>, ByApplicants)>, AllocError>,
+        Result<Option<(IdTable<'_>, ByPrograms)>, AllocError>,
     )
         requires { (names.now.applicants ≡ applicant_ids (all_seen listed.now.records.now))
             × (names.now.programs ≡ ids_of OfProgram (all_seen listed.now.records.now))
@@ -289,7 +255,7 @@ pub(crate) fn read_entries<'n, R: Threads + Sync>(
     half_pairs: bool,
     withdrawn: &Kinds<'_>,
     records: &[Record<'_>],
-) -> Result<Option<(Kinds<'n>, Entries)>, AllocError>
+) -> Result<Option<(Kinds<'n>, (ByApplicants, ByPrograms))>, AllocError>
     requires names { AreNames (all_seen records.now) names.now }
     requires few_applicants { HaveFewApplicants (all_seen records.now) }
     requires few_programs { HaveFewPrograms (all_seen records.now) }
@@ -302,22 +268,16 @@ pub(crate) fn read_entries<'n, R: Threads + Sync>(
     let Some(couples) = couples? else {
         return Ok(None);
     };
-    let Some(by_applicants) = by_applicants? else {
+    let Some((applicants, by_applicants)) = by_applicants? else {
         return Ok(None);
     };
-    let Some(by_programs) = by_programs? else {
+    let Some((programs, by_programs)) = by_programs? else {
         return Ok(None);
     };
     let ids = Kinds {
-        programs: by_programs.ids,
-        applicants: by_applicants.ids,
+        programs,
+        applicants,
         couples,
     };
-    let entries = Entries {
-        rankings: by_applicants.rankings,
-        lists: by_programs.lists,
-        pairs: by_programs.pairs,
-        members: by_applicants.members,
-    };
-    Ok(Some((ids, entries)))
+    Ok(Some((ids, (by_applicants, by_programs))))
 }

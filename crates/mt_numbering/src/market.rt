@@ -13,12 +13,12 @@ ghost use Rattle.mt_records.specs.Records.{all_seen};
 ghost use Rattle.mt_numbering.specs.Numbered.{registered_by_all};
 ghost use Rattle.mt_records.specs.Limits.{AreBounded};
 
-use crate::entries::{Entries, read_entries};
+use crate::entries::read_entries;
 use crate::tables::{agents, quotas};
 use crate::withdrawals::{are_registered, retain_staying, withdrawing, withdrawn};
 use mt_drafts::{Drafts, NameLists, drafts_of};
 use mt_lists::RowsIter;
-use mt_market::{Roster, Tables};
+use mt_market::{ByApplicants, ByPrograms, Roster, Tables};
 use mt_records::{Record, Rules};
 use std::alloc::{AllocError, Global};
 use std::thread::Threads;
@@ -31,7 +31,7 @@ fn remaining_entries<R: Threads + Sync>(
     rules: &Rules,
     names: &NameLists,
     records: &mut Vec<Record<'_>>,
-) -> Result<Option<Entries>, AllocError>
+) -> Result<Option<(ByApplicants, ByPrograms)>, AllocError>
     requires limits { AreBounded rules.now.limits }
     requires names { AreNames (all_seen records.old.items) names.now }
     requires few { are_too_many rules.now.limits (all_seen records.old.items) ≡ false }
@@ -77,22 +77,21 @@ fn make_roster(
     alloc: Global,
     records: &[Record<'_>],
     names: NameLists,
-    entries: Entries,
+    by_applicants: ByApplicants,
+    by_programs: ByPrograms,
 ) -> Result<Roster, AllocError>
     requires market { IsRegistration (registered_by_all (all_seen records.now)) }
-    requires entries { AreEntries (all_seen records.now) entries }
+    requires entries { AreEntries (all_seen records.now) (by_applicants, by_programs) }
     requires names { AreNames (all_seen records.now) names }
     ensures { IfOk result (λ roster. roster ≡ registered_by_all (all_seen records.now)) }
 {
     let quotas = quotas(alloc, records)?;
-    let agents = agents(alloc, names.applicants.len(), &entries.members)?;
+    let agents = agents(alloc, names.applicants.len(), &by_applicants.members)?;
     Ok(Roster::new(Tables {
         quotas,
-        rankings: entries.rankings,
-        lists: entries.lists,
         agents,
-        members: entries.members,
-        pairs: entries.pairs,
+        by_applicants,
+        by_programs,
         program_ids: names.programs,
         applicant_ids: names.applicants,
         couple_ids: names.couples,
@@ -119,11 +118,12 @@ fn market_of_drafts<R: Threads + Sync>(
         entries: _,
     } = drafts;
     let count = records.len();
-    let Some(entries) = remaining_entries(rt, alloc, rules, &names, &mut records)? else {
+    let read = remaining_entries(rt, alloc, rules, &names, &mut records)?;
+    let Some((by_applicants, by_programs)) = read else {
         return Ok(None);
     };
     let names = remaining_names(alloc, names, count, &records)?;
-    let roster = make_roster(alloc, &records, names, entries)?;
+    let roster = make_roster(alloc, &records, names, by_applicants, by_programs)?;
     Ok(Some(roster))
 }
 

@@ -9,9 +9,9 @@ use Rattle.mt_terms.specs.Registration.Records.{IdPair}
 use Rattle.mt_terms.specs.Registration.Passes.{is_same_pair}
 use Rattle.mt_terms.specs.Registration.Numbering.{is_none_or_in, pair_by_number}
 use Rattle.mt_records.specs.Fields.{pairs_left}
+use Rattle.mt_records.specs.declared.fields.Pairs.{Pairs}
 use Rattle.mt_id_lists.specs.Numbering.{Numbering}
 use Rattle.mt_id_lists.specs.Reading.{with_kept}
-use Rattle.mt_pair_lists.specs.declared.pairs.PairList.{PairList}
 
 -- where a pair sends a member, by number, if it names none but these programs
 abbrev pub place_in : List Bytes → Option Bytes → Option (Option ℕ)
@@ -26,8 +26,8 @@ abbrev pub pairs_by : Numbering ℕ → List IdPair → List Pair
 pairs_by n list = filter_map (λ p. new_pair n.numbers (pair_by_number n.ids p)) list
 
 -- a couple's list as a list of pairs, and whether it is kept
-abbrev pub pair_list_seen : PairList → Bool × List IdPair
-pair_list_seen list = (list.kept, pairs_left list.pairs)
+abbrev pub pair_list_seen : Pairs × Bool → Bool × List IdPair
+pair_list_seen list = (list.1, pairs_left list.0)
 
 -- whether a list of pairs has none but those that are allowed and name none but these programs, and none of them twice
 abbrev pub pairs_once : Bool → List Bytes → List IdPair → Bool

@@ -4,4 +4,4 @@
 mod duplicates;
 mod pairs;
 
-pub use pairs::{FoundPairs, PairList, PairReader};
+pub use pairs::{FoundPairs, PairReader};

@@ -16,13 +16,6 @@ use mt_records::Pairs;
 use mt_terms::ProgNo;
 use std::alloc::{AllocError, Global};
 
-/// A couple's list to be read. The pairs of a list that isn't kept are looked up, and that is all.
-#[derive(Clone, Copy)]
-pub struct PairList<'a> {
-    pub pairs: Pairs<'a>,
-    pub kept: bool,
-}
-
 /// The pairs of a list by their numbers among all programs, as far as it was read.
 #[derive(Drop)]
 pub struct FoundPairs {
@@ -151,9 +144,9 @@ impl<'n, 'a> PairReader<'n, 'a> {
     }
 }
 
-impl<'n, 'a, 'l> ListReader<PairList<'l>, FoundPairs> for PairReader<'n, 'a> {
+// Of a couple's pairs, and of whether its list is kept. Those of a list that isn't are looked up, and that is all.
+impl<'n, 'a, 'l> ListReader<(Pairs<'l>, bool), FoundPairs> for PairReader<'n, 'a> {
     ghost use Rattle.std.specs.Prelude.{◌*◌, length, ⊤};
-    ghost use Rattle.mt_records.specs.Fields.{pairs_left};
     ghost use Rattle.mt_pair_lists.specs.Pairs.{pair_list_seen, pairs_read, pairs_stand_in};
 
     type Item = (Option<ProgNo>, Option<ProgNo>);
@@ -162,12 +155,12 @@ impl<'n, 'a, 'l> ListReader<PairList<'l>, FoundPairs> for PairReader<'n, 'a> {
 
     ghost read = { λ r list. pairs_read r.programs.now (pair_list_seen list) };
 
-    ghost entries = { λ r list. 2 * length (pairs_left list.pairs) };
+    ghost entries = { λ r list. 2 * length (pair_list_seen list).1 };
 
     ghost fits = { λ r found. ⊤ };
 
-    fn entries(&self, list: &PairList<'l>) -> usize {
-        list.pairs.entries()
+    fn entries(&self, list: &(Pairs<'l>, bool)) -> usize {
+        list.0.entries()
     }
 
     fn new_met(&self, alloc: Global) -> Result<FoundPairs, AllocError>
@@ -183,9 +176,9 @@ impl<'n, 'a, 'l> ListReader<PairList<'l>, FoundPairs> for PairReader<'n, 'a> {
         alloc: Global,
         lists: &mut FlatLists<(Option<ProgNo>, Option<ProgNo>)>,
         found: &mut FoundPairs,
-        list: &PairList<'l>,
+        list: &(Pairs<'l>, bool),
     ) -> Result<bool, AllocError> {
-        begin_list(lists, list.kept)?;
-        self.push_pairs(lists, &mut found.pairs, list.kept, list.pairs)
+        begin_list(lists, list.1)?;
+        self.push_pairs(lists, &mut found.pairs, list.1, list.0)
     }
 }

@@ -37,7 +37,7 @@ couples_aside_by m aside (k ∷ ks) = ap₂ (λ (c : Partners) cs. c ∷ cs) (wi
 
 -- Tables are those of a registration if they have its columns.
 module _ (s : Registered) (t : Tables) (are : IsRegistration s) (seen : registered_of t ≡ s) where
-  tables_of : length t.rankings ≡ length t.quotas.items → length t.pairs ≡ length t.members.items
+  tables_of : length t.by_applicants.rankings ≡ length t.quotas.items → length t.by_programs.pairs ≡ length t.by_applicants.members.items
       → t.agents.items ≡ map (agent_of s.market) (below (applicants s.market)) → AreTables t
   tables_of rankings pairs agents = record {
     rankings = rankings;
@@ -47,26 +47,26 @@ module _ (s : Registered) (t : Tables) (are : IsRegistration s) (seen : register
   }
 
 module _ (r : Registered) (are : IsRegistration r) (t : Tables) (others : HaveAllButCouples r t) where
-  programs_same : programs_with t.quotas.items t.rankings ≡ r.market.programs
+  programs_same : programs_with t.quotas.items t.by_applicants.rankings ≡ r.market.programs
   programs_same =
       ap₂ programs_with others.quotas others.rankings ∙ programs_by r.market (below (length r.market.programs))
       ∙ by_number (record { quota = 0; ranking = [] }) r.market.programs
 
-  rankings_same : length t.rankings ≡ length t.quotas.items
+  rankings_same : length t.by_applicants.rankings ≡ length t.quotas.items
   rankings_same =
       ap length others.rankings ∙ length-map_below (ranking_at r.market) (length r.market.programs)
       ∙ sym (length-map_below (quota_at r.market) (length r.market.programs)) ∙ sym (ap length others.quotas)
 
   -- the tables with these couples are seen as the market with them
-  seen_as : (cs : List Partners) (ids : List (List ℕ)) → couples_with t.members.items t.pairs ≡ cs → t.couple_ids ≡ ids
+  seen_as : (cs : List Partners) (ids : List (List ℕ)) → couples_with t.by_applicants.members.items t.by_programs.pairs ≡ cs → t.couple_ids ≡ ids
       → registered_of t ≡ record { market = record r.market { couples = cs }; names = record r.names { couples = ids } }
   seen_as cs ids couples names = λ i. record {
     market = record { programs = programs_same i; lists = others.lists i; couples = couples i };
     names = record { programs = others.program_ids i; applicants = others.applicant_ids i; couples = names i };
   }
 
-  module _ (order : List ℕ) (o : IsOrderOfSome r.market order) (members : t.members.items ≡ map (members_at r.market) order)
-      (pairs : t.pairs ≡ map (pairs_at r.market) order) (ids : t.couple_ids ≡ map (name_of r.names.couples) order) where
+  module _ (order : List ℕ) (o : IsOrderOfSome r.market order) (members : t.by_applicants.members.items ≡ map (members_at r.market) order)
+      (pairs : t.by_programs.pairs ≡ map (pairs_at r.market) order) (ids : t.couple_ids ≡ map (name_of r.names.couples) order) where
     pub seen_reordered : registered_of t ≡ reordered_registered order r
     seen_reordered =
         seen_as (map (couple_of r.market) order) (map (name_of r.names.couples) order) (ap₂ couples_with members pairs ∙ couples_by r.market order) ids
@@ -78,9 +78,9 @@ module _ (r : Registered) (are : IsRegistration r) (t : Tables) (others : HaveAl
         (ap length pairs ∙ length-map order (pairs_at r.market) ∙ sym (length-map order (members_at r.market)) ∙ sym (ap length members))
         (agents ∙ same_map _ _ (below (applicants r.market)) (λ a on. renumbered_is r.market are.well_formed order o a))
 
-  module _ (aside order : List ℕ) (all : order ≡ below (length r.market.couples)) (members : t.members.items ≡ map (members_at r.market) order)
-      (pairs : t.pairs ≡ map (pairs_unless_aside aside r.market) (below (length r.market.couples))) (ids : t.couple_ids ≡ map (name_of r.names.couples) order) where
-    all_members : t.members.items ≡ map (members_at r.market) (below (length r.market.couples))
+  module _ (aside order : List ℕ) (all : order ≡ below (length r.market.couples)) (members : t.by_applicants.members.items ≡ map (members_at r.market) order)
+      (pairs : t.by_programs.pairs ≡ map (pairs_unless_aside aside r.market) (below (length r.market.couples))) (ids : t.couple_ids ≡ map (name_of r.names.couples) order) where
+    all_members : t.by_applicants.members.items ≡ map (members_at r.market) (below (length r.market.couples))
     all_members = members ∙ ap (map (members_at r.market)) all
 
     all_ids : t.couple_ids ≡ r.names.couples

@@ -45,7 +45,7 @@ renumbered_agent m order a = renumbered (map (place_from order 0) (below (length
 -- The tables have the programs, the lists and the ids of a market. Its couples may be others.
 pub record HaveAllButCouples (r : Registered) (t : Tables) : Type 0 where
   pub quotas : t.quotas.items ≡ map (quota_at r.market) (below (length r.market.programs))
-  pub rankings : t.rankings ≡ map (ranking_at r.market) (below (length r.market.programs))
-  pub lists : t.lists ≡ r.market.lists
+  pub rankings : t.by_applicants.rankings ≡ map (ranking_at r.market) (below (length r.market.programs))
+  pub lists : t.by_programs.lists ≡ r.market.lists
   pub program_ids : t.program_ids ≡ r.names.programs
   pub applicant_ids : t.applicant_ids ≡ r.names.applicants

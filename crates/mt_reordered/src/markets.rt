@@ -6,7 +6,7 @@ use crate::copies::{applicant_ids, program_ids, quotas, rankings, single_lists};
 use crate::couples::{
     agents, all_couples, couple_ids, members, pairs, pairs_unless_aside, renumbered_agents,
 };
-use mt_market::{ChunkedLists, FlatLists, Roster, Tables};
+use mt_market::{ByApplicants, ByPrograms, ChunkedLists, FlatLists, Roster, Tables};
 use mt_terms::{Agent, AppNo, CoupleNo, ProgNo};
 use std::alloc::{AllocError, Global};
 
@@ -23,17 +23,21 @@ struct CoupleTables {
 fn with_couples(alloc: Global, roster: &Roster, couples: CoupleTables) -> Result<Tables, AllocError>
     ensures others { IfOk result (HaveAllButCouples roster.now) }
     ensures agents { IfOk result (λ t. t.agents.items ≡ couples.agents.items) }
-    ensures members { IfOk result (λ t. t.members.items ≡ couples.members.items) }
-    ensures pairs { IfOk result (λ t. t.pairs ≡ couples.pairs) }
+    ensures members { IfOk result (λ t. t.by_applicants.members.items ≡ couples.members.items) }
+    ensures pairs { IfOk result (λ t. t.by_programs.pairs ≡ couples.pairs) }
     ensures ids { IfOk result (λ t. t.couple_ids ≡ couples.ids) }
 {
     Ok(Tables {
         quotas: quotas(alloc, roster)?,
-        rankings: ChunkedLists::of(alloc, rankings(alloc, roster)?)?,
-        lists: ChunkedLists::of(alloc, single_lists(alloc, roster)?)?,
         agents: couples.agents,
-        members: couples.members,
-        pairs: ChunkedLists::of(alloc, couples.pairs)?,
+        by_applicants: ByApplicants {
+            rankings: ChunkedLists::of(alloc, rankings(alloc, roster)?)?,
+            members: couples.members,
+        },
+        by_programs: ByPrograms {
+            lists: ChunkedLists::of(alloc, single_lists(alloc, roster)?)?,
+            pairs: ChunkedLists::of(alloc, couples.pairs)?,
+        },
         program_ids: program_ids(alloc, roster)?,
         applicant_ids: applicant_ids(alloc, roster)?,
         couple_ids: couples.ids,

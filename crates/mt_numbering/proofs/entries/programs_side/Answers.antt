@@ -33,4 +33,4 @@ pub returns : goal.returns
 returns g c =
     let found = table_found _ _ _ c.in-Some.ids c.requires.names c.in_ok-ids.ensures.ids c.in_ok-ids.ensures.differ c.in-Some.is in
     given_by_programs (stays_after c.args.listed.now.withdrawn.now) (all_seen c.args.listed.now.records.now) c.args.half_pairs c.in_ok-programs.programs (c.in_ok-programs.ensures.ids ∙ found.0)
-    c.in_ok-programs.ensures.numbers found.1 _ c.into_ids.ensures _ c.in-Some-2.is c.in_ok-lists.ensures _ c.in-Some-3.is c.in_ok-pairs.ensures
+    c.in_ok-programs.ensures.numbers found.1 (c.into_ids.result, _) c.into_ids.ensures _ c.in-Some-2.is c.in_ok-lists.ensures _ c.in-Some-3.is c.in_ok-pairs.ensures

@@ -21,7 +21,7 @@ pub new-requires : goal.new-requires
 new-requires c =
     let rs = all_seen c.args.records.now in
     tables_are rs c.requires.market _
-    (made_by rs c.args.names c.args.entries c.in_ok-quotas.quotas c.in_ok-agents.agents c.deref.result.now c.len.result
+    (made_by rs c.args.names (c.args.by_applicants, c.args.by_programs) c.in_ok-quotas.quotas c.in_ok-agents.agents c.deref.result.now c.len.result
     c.requires.names c.requires.entries c.in_ok-quotas.ensures c.len.ensures c.deref.ensures.value c.in_ok-agents.ensures)
 
 pub returns : goal.returns
@@ -29,5 +29,5 @@ returns c =
     let rs = all_seen c.args.records.now in
     c.new.ensures
     ∙ tables_seen rs c.requires.market _
-    (made_by rs c.args.names c.args.entries c.in_ok-quotas.quotas c.in_ok-agents.agents c.deref.result.now c.len.result
+    (made_by rs c.args.names (c.args.by_applicants, c.args.by_programs) c.in_ok-quotas.quotas c.in_ok-agents.agents c.deref.result.now c.len.result
     c.requires.names c.requires.entries c.in_ok-quotas.ensures c.len.ensures c.deref.ensures.value c.in_ok-agents.ensures)

@@ -8,6 +8,6 @@ list-requires c = omega (arith, count_of_couples c.self.inside.tables c.self.inv
 
 pub returns : goal.returns
 returns c =
-    c.list.ensures ∙ ap (λ i. get_or c.self.inside.tables.pairs i []) c.index.ensures
+    c.list.ensures ∙ ap (λ i. get_or c.self.inside.tables.by_programs.pairs i []) c.index.ensures
     ∙ pairs_at c.self.inside.tables c.args.couple c.self.invariant
     ∙ ap (λ (r : Registered). (couple_of r.market c.args.couple).pairs) c.self.view_is

@@ -10,11 +10,11 @@ pub index-requires-2 : goal.index-requires-2
 index-requires-2 c = omega (arith, count_of_couples c.self.inside.tables c.self.invariant, ap (λ (r : Registered). length r.market.couples) c.self.view_is)
 
 -- the members at a place, as the view has them
-member : (i : Tables) (v : Registered) (couple n : ℕ) (m : ℕ × ℕ) → AreTables i → registered_of i ≡ v → couple < length v.market.couples → n ≡ couple → m ≡ get_or i.members.items n m
+member : (i : Tables) (v : Registered) (couple n : ℕ) (m : ℕ × ℕ) → AreTables i → registered_of i ≡ v → couple < length v.market.couples → n ≡ couple → m ≡ get_or i.by_applicants.members.items n m
     → m ≡ ((couple_of v.market couple).first, (couple_of v.market couple).second)
 member i v couple n m is view below same at =
-    let within : couple < length i.members.items = omega (arith, count_of_couples i is, ap (λ (r : Registered). length r.market.couples) view) in
-    let read : m ≡ get_or i.members.items couple (0, 0) = get_or_read_under i.members.items couple _ m (0, 0) (rw same at at) within refl in
+    let within : couple < length i.by_applicants.members.items = omega (arith, count_of_couples i is, ap (λ (r : Registered). length r.market.couples) view) in
+    let read : m ≡ get_or i.by_applicants.members.items couple (0, 0) = get_or_read_under i.by_applicants.members.items couple _ m (0, 0) (rw same at at) within refl in
     let first : m.0 ≡ (couple_of v.market couple).first = ap (λ (x : ℕ × ℕ). x.0) read ∙ first_at i couple is ∙ ap (λ (r : Registered). (couple_of r.market couple).first) view in
     let second : m.1 ≡ (couple_of v.market couple).second = ap (λ (x : ℕ × ℕ). x.1) read ∙ second_at i couple is ∙ ap (λ (r : Registered). (couple_of r.market couple).second) view in
     λ k. (first k, second k)

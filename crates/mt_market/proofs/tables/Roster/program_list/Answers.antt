@@ -8,6 +8,6 @@ list-requires c = omega (arith, count_of_programs c.self.inside.tables c.self.in
 
 pub returns : goal.returns
 returns c =
-    c.list.ensures ∙ ap (λ i. get_or c.self.inside.tables.rankings i []) c.index.ensures
+    c.list.ensures ∙ ap (λ i. get_or c.self.inside.tables.by_applicants.rankings i []) c.index.ensures
     ∙ ranking_at c.self.inside.tables c.args.program c.self.invariant
     ∙ ap (λ (r : Registered). (program_of r.market c.args.program).ranking) c.self.view_is

@@ -11,7 +11,7 @@ pub returns-in_default-2 : goal.returns-in_default-2
 returns-in_default-2 g c =
     let ids = c.args.self.now in
     let pieces = c.in_ok-pieces.pieces.items in
-    let whole : flat_map piece_ids pieces ≡ ids_in c.args.list.now.fields = c.in_ok-pieces.ensures ∙ sym (ap ids_in c.in-Some.is) in
+    let whole : flat_map piece_ids pieces ≡ ids_in c.args.ids = c.in_ok-pieces.ensures ∙ sym (ap ids_in c.in-Some.is) in
     let reads = rw c.in_default-2.is at c.in_ok-places.ensures in
     sym (ap (list_all (has_id ids)) whole) ∙ sym (pieces_stand ids pieces) ∙ reads
 
@@ -25,7 +25,7 @@ pub returns : goal.returns
 returns g c =
     let ids = c.args.self.now in
     let pieces = c.in_ok-pieces.pieces.items in
-    let whole : flat_map piece_ids pieces ≡ ids_in c.args.list.now.fields = c.in_ok-pieces.ensures ∙ sym (ap ids_in c.in-Some.is) in
+    let whole : flat_map piece_ids pieces ≡ ids_in c.args.ids = c.in_ok-pieces.ensures ∙ sym (ap ids_in c.in-Some.is) in
     let reads = rw c.in-Some-2.is at c.in_ok-places.ensures in (
       sym (ap (list_all (has_id ids)) whole) ∙ sym (pieces_stand ids pieces) ∙ reads.0,
       c.in_ok-joined.ensures ∙ ap (flat_map (λ (l : List ℕ). l)) reads.1 ∙ pieces_read ids pieces ∙ ap (map (number_of ids)) whole,
