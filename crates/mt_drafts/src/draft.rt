@@ -5,7 +5,7 @@ ghost use Rattle.mt_lists.specs.Rows.{fields_left};
 ghost use Rattle.mt_draft_laws.specs.Faultless.{program_draft, applicant_draft, couple_draft, draft};
 ghost use Rattle.mt_records.specs.Records.{record_seen};
 
-use mt_ids::{Kind, is_id, quota_of};
+use mt_ids::{Kind, is_id, parse_quota};
 use mt_lists::Fields;
 use mt_records::{CoupleFields, Record, Rules, kind_of, names_are_ids, withdraw_record, withdraws};
 
@@ -19,7 +19,7 @@ fn program_draft<'a>(rules: &Rules, fields: Fields<'a>) -> Option<Record<'a>>
     if !is_id(rules.limits.id_bytes, id) {
         return None;
     }
-    let quota = quota_of(quota)?;
+    let quota = parse_quota(quota)?;
     Some(Record::Program { quota, id, list })
 }
 

@@ -18,7 +18,7 @@ use crate::registry::{Registry, is_before};
 use crate::repeats::{tell_pair_repeats, tell_repeats};
 use crate::tell::{FieldTest, fault_alone, fault_of, is_id_field, tell, tell_bad_pairs, tell_each};
 use mt_fault_sink::{Fault, FaultEnd, FaultSink};
-use mt_ids::{Kind, Seed, quota_of};
+use mt_ids::{Kind, Seed, parse_quota};
 use mt_records::Rules;
 use mt_terms::Limits;
 use mt_terms::codes::{BAD_QUOTA, DUPLICATE_ENTRY, DUPLICATE_ID, TOO_MANY};
@@ -67,7 +67,7 @@ fn bad_quota<'a>(rules: &Rules, parts: &Parts<'a>) -> Option<Fault<'a>>
     ensures { faults_seen result ≡ quota_faults rules.now (parts_seen parts.now) }
 {
     let field = parts.quota?;
-    if quota_of(field.bytes).is_some() {
+    if parse_quota(field.bytes).is_some() {
         return None;
     }
     Some(Fault {

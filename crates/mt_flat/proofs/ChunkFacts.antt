@@ -4,12 +4,12 @@ use Rattle.std.specs.Prelude.{All}
 use Rattle.std.proofs.Math.Seq.{take-suc}
 use Rattle.std.proofs.lemmas.List.{get_or-map, get_or_append_left, get_or_push, get_or_read, length-map, length_push, map-append, take_all}
 use Rattle.std.proofs.lemmas.List.Elements.{All-append, All-get_or, All-head, All-nil, All-push, All-tail, All-weaker}
-use Rattle.mt_flat.specs.ChunkedLists.{list_at, places_of, IsWithin}
+use Rattle.mt_flat.specs.ChunkedLists.{list_at, chunk_places, IsWithin}
 use Rattle.mt_flat.specs.declared.chunked_lists.Place.{Place}
 
 -- one place more
-pub places_of-more : (chunk n : ℕ) → places_of chunk (n + 1) ≡ places_of chunk n ++ record { chunk = chunk; number = n } ∷ []
-places_of-more chunk n = let e : n + 1 ≡ suc n = omega arith in ap (places_of chunk) e
+pub chunk_places-more : (chunk n : ℕ) → chunk_places chunk (n + 1) ≡ chunk_places chunk n ++ record { chunk = chunk; number = n } ∷ []
+chunk_places-more chunk n = let e : n + 1 ≡ suc n = omega arith in ap (chunk_places chunk) e
 
 -- Below, a chunk is added to others.
 module _ {X : Type 0} (chunks : List (List (List X))) (chunk : List (List X)) where
@@ -35,34 +35,34 @@ module _ {X : Type 0} (chunks : List (List (List X))) (chunk : List (List X)) wh
       let rest : map (list_at more) ps ≡ map (list_at chunks) ps = lists_kept ps (All-tail (IsWithin chunks) p ps h) in
       cc
 
-  new_within : (n : ℕ) → n ≤ length chunk → All (IsWithin more) (places_of (length chunks) n)
+  new_within : (n : ℕ) → n ≤ length chunk → All (IsWithin more) (chunk_places (length chunks) n)
   new_within zero h = All-nil (IsWithin more)
   new_within (suc n) h =
-      All-push (IsWithin more) (places_of (length chunks) n) (record { chunk = length chunks; number = n }) (new_within n (omega arith))
+      All-push (IsWithin more) (chunk_places (length chunks) n) (record { chunk = length chunks; number = n }) (new_within n (omega arith))
       (omega (arith, length_push chunks chunk), subst (λ (c : List (List X)). n < length c) (sym at_new) (omega arith))
 
-  new_lists : (n : ℕ) → n ≤ length chunk → map (list_at more) (places_of (length chunks) n) ≡ take n chunk
+  new_lists : (n : ℕ) → n ≤ length chunk → map (list_at more) (chunk_places (length chunks) n) ≡ take n chunk
   new_lists zero h = refl
   new_lists (suc n) h =
       let one : Place = record { chunk = length chunks; number = n } in
-      map-append (list_at more) (places_of (length chunks) n) (one ∷ [])
+      map-append (list_at more) (chunk_places (length chunks) n) (one ∷ [])
       ∙ ap₂ (λ (ls : List (List X)) (l : List X). ls ++ l ∷ []) (new_lists n (omega arith)) (ap (λ (c : List (List X)). get_or c n []) at_new)
       ∙ sym (take-suc chunk n [] (omega arith))
 
   -- Below, the places of all its lists are added.
-  places_more : (places : List Place) → All (IsWithin chunks) places → All (IsWithin more) (places ++ places_of (length chunks) (length chunk))
+  places_more : (places : List Place) → All (IsWithin chunks) places → All (IsWithin more) (places ++ chunk_places (length chunks) (length chunk))
   places_more places h =
-      All-append (IsWithin more) places (places_of (length chunks) (length chunk)) (places_kept places h) (new_within (length chunk) (omega arith))
+      All-append (IsWithin more) places (chunk_places (length chunks) (length chunk)) (places_kept places h) (new_within (length chunk) (omega arith))
 
-  lists_more : (places : List Place) → All (IsWithin chunks) places → map (list_at more) (places ++ places_of (length chunks) (length chunk)) ≡ map (list_at chunks) places ++ chunk
+  lists_more : (places : List Place) → All (IsWithin chunks) places → map (list_at more) (places ++ chunk_places (length chunks) (length chunk)) ≡ map (list_at chunks) places ++ chunk
   lists_more places h =
-      map-append (list_at more) places (places_of (length chunks) (length chunk))
+      map-append (list_at more) places (chunk_places (length chunks) (length chunk))
       ∙ ap₂ (λ (old : List (List X)) (new : List (List X)). old ++ new) (lists_kept places h) (new_lists (length chunk) (omega arith) ∙ take_all (length chunk) chunk (omega arith))
 
-  pub places_after : (places all : List Place) (cs : List (List (List X))) → All (IsWithin chunks) places → all ≡ places ++ places_of (length chunks) (length chunk) → cs ≡ more → All (IsWithin cs) all
+  pub places_after : (places all : List Place) (cs : List (List (List X))) → All (IsWithin chunks) places → all ≡ places ++ chunk_places (length chunks) (length chunk) → cs ≡ more → All (IsWithin cs) all
   places_after places all cs h added pushed = subst₂ (λ (ks : List (List (List X))) ps. All (IsWithin ks) ps) (sym pushed) (sym added) (places_more places h)
 
-  pub lists_after : (places all : List Place) (cs : List (List (List X))) (lists : List (List X)) → All (IsWithin chunks) places → all ≡ places ++ places_of (length chunks) (length chunk) → cs ≡ more
+  pub lists_after : (places all : List Place) (cs : List (List (List X))) (lists : List (List X)) → All (IsWithin chunks) places → all ≡ places ++ chunk_places (length chunks) (length chunk) → cs ≡ more
       → map (list_at chunks) places ≡ lists → map (list_at cs) all ≡ lists ++ chunk
   lists_after places all cs lists h added pushed are =
       ap₂ (λ (ks : List (List (List X))) ps. map (list_at ks) ps) pushed added ∙ lists_more places h ∙ ap (λ (ls : List (List X)). ls ++ chunk) are

@@ -11,6 +11,6 @@ abbrev pub IsWithin : {X : Type 0} → List (List (List X)) → Place → Type 0
 IsWithin chunks place = (place.chunk < length chunks) × (place.number < length (slice_index_or chunks place.chunk []))
 
 -- the places of the first lists of a chunk, as many as this
-abbrev pub places_of : ℕ → ℕ → List Place
-places_of chunk zero = []
-places_of chunk (suc count) = places_of chunk count ++ record { chunk = chunk; number = count } ∷ []
+abbrev pub chunk_places : ℕ → ℕ → List Place
+chunk_places chunk zero = []
+chunk_places chunk (suc count) = chunk_places chunk count ++ record { chunk = chunk; number = count } ∷ []

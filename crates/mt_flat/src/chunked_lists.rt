@@ -1,5 +1,5 @@
 ghost use Rattle.std.specs.Prelude.{◌≡◌, ◌<◌, ◌++◌, [], length, slice_index_or, IfOk, OnOk};
-ghost use Rattle.mt_flat.specs.ChunkedLists.{places_of};
+ghost use Rattle.mt_flat.specs.ChunkedLists.{chunk_places};
 
 use crate::flat_lists::FlatLists;
 use crate::growing_lists::short_place;
@@ -41,8 +41,8 @@ impl<T> Model for ChunkedLists<T> {
 }
 
 /// The places of the lists of a chunk with this number, which has `count` lists.
-fn places_of(alloc: Global, chunk: u32, count: u32) -> Result<Vec<Place>, AllocError>
-    ensures { IfOk result (λ places. places.items ≡ places_of chunk count) }
+fn chunk_places(alloc: Global, chunk: u32, count: u32) -> Result<Vec<Place>, AllocError>
+    ensures { IfOk result (λ places. places.items ≡ chunk_places chunk count) }
 {
     let mut places = Vec::with_capacity(alloc, count as usize)?;
     for number in 0..count {
@@ -90,7 +90,7 @@ impl<T> ChunkedLists<T> {
         ensures { OnOk result (self.new ≡ self.old ++ chunk) }
     {
         let number = short_place(self.chunks.len())?;
-        let places = places_of(alloc, number, short_place(chunk.len())?)?;
+        let places = chunk_places(alloc, number, short_place(chunk.len())?)?;
         self.chunks.push(chunk)?;
         self.places.extend_from_slice(&places)?;
         Ok(())

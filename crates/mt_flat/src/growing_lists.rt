@@ -52,9 +52,9 @@ pub(crate) fn short_place(place: usize) -> Result<u32, AllocError>
     Ok(place as u32)
 }
 
-/// The row of a span.
+/// The items of a span.
 #[inline]
-fn row_of<'a, T>(items: &'a [T], spans: &[Span], number: usize) -> &'a [T]
+fn span_items<'a, T>(items: &'a [T], spans: &[Span], number: usize) -> &'a [T]
     requires spans { AreSpans (length items.now) spans.now }
     requires within { number < length spans.now }
     ensures { result.now ≡ row_in items.now (span_at spans.now number) }
@@ -118,7 +118,7 @@ impl<T> GrowingLists<T> {
         requires { number < length self.now }
         ensures { result.now ≡ slice_index_or self.now number [] }
     {
-        row_of(&self.items, &self.spans, number)
+        span_items(&self.items, &self.spans, number)
     }
 }
 

@@ -62,7 +62,7 @@ fn is_quota(field: &[u8]) -> bool
 }
 
 /// The quota that a field writes: one to four digits.
-pub fn quota_of(field: &[u8]) -> Option<u32>
+pub fn parse_quota(field: &[u8]) -> Option<u32>
     ensures { result ≡ quota_of field.now }
 {
     if is_quota(field) {

@@ -9,6 +9,6 @@ mod seed;
 mod words;
 
 pub use id_table::IdTable;
-pub use ids::{are_digits, is_dash, is_id, quota_of, value_of};
+pub use ids::{are_digits, is_dash, is_id, parse_quota, value_of};
 pub use kinds::{Kind, Kinds};
 pub use seed::{Seed, add_field};

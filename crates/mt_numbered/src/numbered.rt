@@ -161,7 +161,7 @@ impl<'a, T: Number> Numbered<'a, T> {
     }
 }
 
-// Of a list's ids, if it has any, and of whether it is kept. Those of a list that isn't are looked up, and that is all.
+// It reads a list's ids, if it has any, with whether the list is kept. Of a list that isn't, it only looks the ids up.
 impl<'r, 'a, 'n, T: Number + Send + Sync> ListReader<(Option<&'r Fields<'a>>, bool), Met>
     for Numbered<'n, T> {
     ghost use Rattle.std.specs.Prelude.{◌≡◌, length};

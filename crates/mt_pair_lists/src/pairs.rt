@@ -144,7 +144,7 @@ impl<'n, 'a> PairReader<'n, 'a> {
     }
 }
 
-// Of a couple's pairs, and of whether its list is kept. Those of a list that isn't are looked up, and that is all.
+// It reads a couple's pairs, with whether their list is kept. Of a list that isn't, it only looks the pairs up.
 impl<'n, 'a, 'l> ListReader<(Pairs<'l>, bool), FoundPairs> for PairReader<'n, 'a> {
     ghost use Rattle.std.specs.Prelude.{◌*◌, length, ⊤};
     ghost use Rattle.mt_pair_lists.specs.Pairs.{pair_list_seen, pairs_read, pairs_stand_in};

@@ -11,7 +11,7 @@ ghost use Rattle.mt_records.specs.Records.{record_seen, record_fault_seen, read_
 
 use crate::fields::{CoupleFields, are_ids, are_pairs};
 use crate::rules::Rules;
-use mt_ids::{Kind, is_id, quota_of};
+use mt_ids::{Kind, is_id, parse_quota};
 use mt_lists::Fields;
 use mt_terms::codes::{BAD_ID, BAD_QUOTA, FIELD_COUNT, UNKNOWN_KIND};
 
@@ -139,7 +139,7 @@ fn program_record<'a>(rules: &Rules, fields: Fields<'a>) -> Result<Record<'a>, R
     if !is_id(rules.limits.id_bytes, id) || !are_ids(rules, list) {
         return Err(record_fault_alone(BAD_ID));
     }
-    match quota_of(quota) {
+    match parse_quota(quota) {
         Some(quota) => Ok(Record::Program { quota, id, list }),
         None => Err(RecordFault {
             code: BAD_QUOTA,

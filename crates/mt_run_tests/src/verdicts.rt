@@ -94,7 +94,7 @@ fn program_called(roster: &Roster, id: &str) -> Option<ProgNo> {
 }
 
 // The places that a text gives.
-fn places_of(
+fn read_places(
     alloc: Global,
     roster: &Roster,
     text: &str,
@@ -129,7 +129,7 @@ fn finding_on<R: Abort + Threads + Sync>(
 ) -> Result<String, AllocError>
     requires { ranks.now ≡ ranked_of roster.now.market }
 {
-    let places = places_of(alloc, roster, match_text)?;
+    let places = read_places(alloc, roster, match_text)?;
     let verdict = plain_finding(rt, alloc, match_text, roster, ranks, places)?;
     shown(alloc, &verdict)
 }
