@@ -1,2 +1,3 @@
+pub mod BatchFacts
 pub mod NumberFacts
 pub mod PieceFacts

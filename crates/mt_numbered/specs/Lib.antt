@@ -1,3 +1,4 @@
+pub mod Batches
 pub mod IdLists
 pub mod Pieces
 pub mod Places

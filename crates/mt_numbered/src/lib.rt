@@ -1,6 +1,7 @@
 //! Numbered ids, and the readers of applicants' and programs' lists by them.
 #![tactic(auto)]
 
+mod batch;
 mod numbered;
 mod pieces;
 

@@ -5,6 +5,7 @@ ghost use Rattle.mt_id_lists.specs.Numbering.{number_by};
 ghost use Rattle.mt_terms.specs.Lists.{below};
 ghost use Rattle.mt_id_lists.specs.Reading.{with_kept, ReadsIds};
 
+use crate::batch::{AT_ONCE, find_places, take_fields};
 use mt_flat::FlatLists;
 use mt_id_lists::{ListReader, Met, Number};
 use mt_ids::IdTable;
@@ -148,16 +149,25 @@ impl<'a, T: Number> Numbered<'a, T> {
         ensures reads { IfOk result
             (ReadsIds self.now kept (fields_left list.entry) lists.old lists.new) }
     {
-        for id in list {
-            let Some(place) = self.place(id) else {
-                return Ok(false);
-            };
-            if !met.meet(place) {
-                return Ok(false);
+        let mut rest = list;
+        let mut fields: [&[u8]; AT_ONCE] = [b""; AT_ONCE];
+        let mut places = [None; AT_ONCE];
+        loop {
+            let count = take_fields(&mut rest, &mut fields);
+            if count == 0 {
+                return Ok(true);
             }
-            self.push_number(lists, kept, place)?;
+            find_places(self, &fields[..count], &mut places);
+            for i in 0..count {
+                let Some(place) = places[i] else {
+                    return Ok(false);
+                };
+                if !met.meet(place) {
+                    return Ok(false);
+                }
+                self.push_number(lists, kept, place)?;
+            }
         }
-        Ok(true)
     }
 }
 

@@ -1,48 +1,64 @@
-use Rattle.std.proofs.Common.{◌≡◌, Bool, true, List, ap, sym, ◌∙◌, refl, length}
+use Rattle.std.proofs.Common.{◌≡◌, ◌+◌, Bool, true, List, refl, ap, sym, ◌∙◌, length, arith}
 use Rattle.std.proofs.lemmas.List.{length-set}
 use Rattle.mt_lists.specs.Rows.{fields_left}
-use Rattle.mt_terms.specs.Registration.Ids.{Bytes}
-use Rattle.mt_ids.proofs.IdFacts.{found_id, missing_id}
-use Rattle.mt_id_lists.specs.Numbering.{numbers_by}
-use Rattle.mt_id_lists.specs.Reading.{with_kept}
+use Rattle.mt_ids.proofs.IdFacts.{found_id, found_below, missing_id}
 use Rattle.mt_id_lists.proofs.MetFacts.{stands_from, stands_from-once, stands_from-missing, stands_from-again, stands_from-new}
 use Rattle.mt_id_lists.proofs.ReadingSteps.{numbers-more}
+use Rattle.mt_numbered.proofs.BatchFacts.{left_from, next_field}
 use Rattle.mt_numbered.proofs.numbered.Numbered.push_ids.Goals as goal
 
-pub loop-id-init : goal.loop-id-init
-loop-id-init g c =
-    let n = c.args.self.now in
-    let same : fields_left c.into_iter-id-iterator.result ≡ fields_left c.args.list = ap fields_left c.into_iter-id-iterator.ensures.into_iter_gives in
-    record {
-      long = refl;
-      count = refl;
-      stands = ap (stands_from n.ids c.args.met.now) same ∙ stands_from-once n.ids c.args.met.now (fields_left c.args.list) c.requires.len c.requires.none;
-      rest = ap (λ (list : List Bytes). with_kept c.args.kept c.args.lists.now (numbers_by n list)) same;
-    }
+pub loop-rest-init : goal.loop-rest-init
+loop-rest-init g c = record {
+  wide = refl;
+  room = refl;
+  long = refl;
+  count = refl;
+  stands = stands_from-once c.args.self.now.ids c.args.met.now (fields_left c.args.list) c.requires.len c.requires.none;
+  rest = refl;
+}
 
 pub returns-in_default-clause-reads : goal.returns-in_default-clause-reads
 returns-in_default-clause-reads g c =
     let n = c.args.self.now in
-    sym c.loop-id.invariant.stands
-    ∙ stands_from-missing n.ids c.loop-id.met _ c.in-Some.id.now _ c.in-Some.ensures.steps (missing_id n.ids c.in-Some.id.now c.in_default.ensures)
+    let next = next_field n.ids c.take_fields-count.new.fields c.find_places.new.places c.loop-i.i c.take_fields-count.result (fields_left c.take_fields-count.new.rest)
+        c.loop-i-test.true (omega (arith, c.take_fields-count.ensures.few, c.if-count-eq0.array_long)) c.find_places.ensures in
+    sym c.loop-i.invariant.stands ∙ stands_from-missing n.ids c.loop-i.met _ next.field _ next.steps (missing_id n.ids next.field (sym c.in_default.is ∙ next.found))
+
+pub meet-requires : goal.meet-requires
+meet-requires g c =
+    let n = c.args.self.now in
+    let next = next_field n.ids c.take_fields-count.new.fields c.find_places.new.places c.loop-i.i c.take_fields-count.result (fields_left c.take_fields-count.new.rest)
+        c.loop-i-test.true (omega (arith, c.take_fields-count.ensures.few, c.if-count-eq0.array_long)) c.find_places.ensures in
+    omega (arith, found_below n.ids next.field c.in-Some.place (sym c.in-Some.is ∙ next.found), c.loop-i.invariant.long, c.requires.len)
 
 pub returns-then-not-meet-clause-reads : goal.returns-then-not-meet-clause-reads
 returns-then-not-meet-clause-reads g c =
     let n = c.args.self.now in
-    let at = found_id n.ids c.in-Some.id.now c.in-Some-place.place c.in-Some-place.ensures in
-    sym c.loop-id.invariant.stands
-    ∙ stands_from-again n.ids c.loop-id.met _ c.in-Some.id.now _ c.in-Some.ensures.steps c.in-Some-place.place at.1 (sym c.meet.ensures.first ∙ c.if-not-meet.true)
+    let next = next_field n.ids c.take_fields-count.new.fields c.find_places.new.places c.loop-i.i c.take_fields-count.result (fields_left c.take_fields-count.new.rest)
+        c.loop-i-test.true (omega (arith, c.take_fields-count.ensures.few, c.if-count-eq0.array_long)) c.find_places.ensures in
+    let at = found_id n.ids next.field c.in-Some.place (sym c.in-Some.is ∙ next.found) in
+    sym c.loop-i.invariant.stands ∙ stands_from-again n.ids c.loop-i.met _ next.field _ next.steps c.in-Some.place at.1 (sym c.meet.ensures.first ∙ c.if-not-meet.true)
 
-pub loop-id-preserved : goal.loop-id-preserved
-loop-id-preserved g c =
+pub push_number-requires-clause-within : goal.push_number-requires-clause-within
+push_number-requires-clause-within g c =
     let n = c.args.self.now in
-    let place = c.in-Some-place.place in
-    let at = found_id n.ids c.in-Some.id.now place c.in-Some-place.ensures in
+    let next = next_field n.ids c.take_fields-count.new.fields c.find_places.new.places c.loop-i.i c.take_fields-count.result (fields_left c.take_fields-count.new.rest)
+        c.loop-i-test.true (omega (arith, c.take_fields-count.ensures.few, c.if-count-eq0.array_long)) c.find_places.ensures in
+    found_below n.ids next.field c.in-Some.place (sym c.in-Some.is ∙ next.found)
+
+pub loop-i-preserved : goal.loop-i-preserved
+loop-i-preserved g c =
+    let n = c.args.self.now in
+    let place = c.in-Some.place in
+    let next = next_field n.ids c.take_fields-count.new.fields c.find_places.new.places c.loop-i.i c.take_fields-count.result (fields_left c.take_fields-count.new.rest)
+        c.loop-i-test.true (omega (arith, c.take_fields-count.ensures.few, c.if-count-eq0.array_long)) c.find_places.ensures in
+    let at = found_id n.ids next.field place (sym c.in-Some.is ∙ next.found) in
+    let left = left_from (c.loop-i.i + 1) c.take_fields-count.result c.take_fields-count.new.fields (fields_left c.take_fields-count.new.rest) in
     record {
-      long = ap length c.meet.ensures.met ∙ length-set c.loop-id.met place true ∙ c.loop-id.invariant.long;
-      count = c.in_ok-push_number.ensures.len ∙ c.loop-id.invariant.count;
-      stands = ap (λ (met : List Bool). stands_from n.ids met (fields_left c.next.new.self)) c.meet.ensures.met
-          ∙ sym (stands_from-new n.ids c.loop-id.met _ c.in-Some.id.now _ c.in-Some.ensures.steps place at.1 at.0 (sym c.meet.ensures.first ∙ c.if-not-meet.false))
-          ∙ c.loop-id.invariant.stands;
-      rest = numbers-more n c.args.kept _ c.in-Some.id.now _ place c.loop-id.lists _ c.in-Some.ensures.steps at.1 c.in_ok-push_number.ensures.lists ∙ c.loop-id.invariant.rest;
+      long = ap length c.meet.ensures.met ∙ length-set c.loop-i.met place true ∙ c.loop-i.invariant.long;
+      count = c.in_ok-push_number.ensures.len ∙ c.loop-i.invariant.count;
+      stands = ap (λ (met : List Bool). stands_from n.ids met left) c.meet.ensures.met
+          ∙ sym (stands_from-new n.ids c.loop-i.met _ next.field left next.steps place at.1 at.0 (sym c.meet.ensures.first ∙ c.if-not-meet.false))
+          ∙ c.loop-i.invariant.stands;
+      rest = numbers-more n c.args.kept _ next.field left place c.loop-i.lists _ next.steps at.1 c.in_ok-push_number.ensures.lists ∙ c.loop-i.invariant.rest;
     }
