@@ -1,13 +1,22 @@
 -- Fields of a list that are looked up together, and their places.
-use Rattle.std.proofs.Common.{◌≡◌, ℕ, ◌+◌, ◌<◌, ◌≤◌, List, [], ◌∷◌, ◌++◌, length, map, take, drop, get_or, set, Option, None, ap, ap₂, sym, ◌∙◌, arith}
+use Rattle.std.proofs.Common.{◌≡◌, ℕ, ◌+◌, ◌-◌, ◌<◌, ◌≤◌, List, [], ◌∷◌, ◌++◌, length, map, take, drop, get_or, set, Option, None, ap, ap₂, sym, ◌∙◌, arith}
 use Rattle.std.specs.Borrow.{Bor}
-use Rattle.std.proofs.lemmas.List.{append_assoc, map-append, take_more, take_more_set, drop_more, get_or-take, get_or-map, length-take-le}
+use Rattle.std.proofs.lemmas.List.{append_assoc, map-append, take_more, take_more_set, drop_more, get_or-take, get_or-map, length-map, length-take-le}
+use Rattle.std.proofs.Math.Seq.{take-append-add}
 use Rattle.mt_terms.specs.Registration.Ids.{Bytes}
 use Rattle.mt_numbered.specs.Batches.{place_among}
 
 -- what is left of fields from a place on, and after them
 abbrev pub left_from : ℕ → ℕ → List (Bor Bytes) → List Bytes → List Bytes
 left_from i count fields rest = map (λ f. f.now) (drop i (take count fields)) ++ rest
+
+-- the first of what is left, before some fields were taken and after
+pub first_left : (fields : List (Bor Bytes)) (count left : ℕ) (all rest : List Bytes) → count ≤ left → count ≤ length fields → all ≡ map (λ f. f.now) (take count fields) ++ rest
+    → take left all ≡ left_from 0 count fields (take (left - count) rest)
+first_left fields count left all rest h long is =
+    let taken = map (λ (f : Bor Bytes). f.now) (take count fields) in
+    let same : left ≡ length taken + (left - count) = omega (arith, h, length-map (take count fields) (λ (f : Bor Bytes). f.now), length-take-le count fields long) in
+    ap (take left) is ∙ ap (λ (n : ℕ). take n (taken ++ rest)) same ∙ take-append-add taken rest (left - count)
 
 -- fields with one more
 pub fields-more : (fields : List (Bor Bytes)) (count : ℕ) (field : Bor Bytes) (left rest : List Bytes) → count < length fields → left ≡ field.now ∷ rest

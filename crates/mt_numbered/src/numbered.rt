@@ -153,7 +153,7 @@ impl<'a, T: Number> Numbered<'a, T> {
         let mut fields: [&[u8]; AT_ONCE] = [b""; AT_ONCE];
         let mut places = [None; AT_ONCE];
         loop {
-            let count = take_fields(&mut rest, &mut fields);
+            let count = take_fields(&mut rest, AT_ONCE, &mut fields);
             if count == 0 {
                 return Ok(true);
             }

@@ -8,6 +8,7 @@ ghost use Rattle.mt_numbered.specs.IdLists.{ids_in, list_seen};
 ghost use Rattle.mt_numbered.specs.Pieces.{piece_ids};
 ghost use Rattle.mt_numbered.specs.Places.{FindsPlaces, ReadsPlaces};
 
+use crate::batch::{AT_ONCE, find_places, take_fields};
 use crate::numbered::{Numbered, begin_list};
 use mt_flat::{ChunkedLists, FlatLists};
 use mt_id_lists::{ListReader, Met, Number, read_lists};
@@ -84,16 +85,23 @@ impl<'p, 'n, 'a, T: Number + Send + Sync> ListReader<Piece<'p>, ()> for PlaceRea
         piece: &Piece<'p>,
     ) -> Result<bool, AllocError> {
         lists.begin()?;
+        let mut rest = piece.fields;
         let mut left = piece.count;
-        for id in piece.fields {
-            if left == 0 {
+        let mut fields: [&[u8]; AT_ONCE] = [b""; AT_ONCE];
+        let mut places = [None; AT_ONCE];
+        while left > 0 {
+            let count = take_fields(&mut rest, left, &mut fields);
+            if count == 0 {
                 return Ok(true);
             }
-            let Some(place) = self.numbered.place(id) else {
-                return Ok(false);
-            };
-            lists.push(place as u32)?;
-            left -= 1;
+            find_places(self.numbered, &fields[..count], &mut places);
+            for i in 0..count {
+                let Some(place) = places[i] else {
+                    return Ok(false);
+                };
+                lists.push(place as u32)?;
+            }
+            left -= count;
         }
         Ok(true)
     }

@@ -1,61 +1,71 @@
-use Rattle.std.proofs.Common.{◌≡◌, ◌∙◌, ◌∷◌, [], ℕ, List, true, false, ap, sym, length, length-append, map, take, arith}
+use Rattle.std.proofs.Common.{◌≡◌, ℕ, ◌∙◌, ◌∷◌, ◌-◌, [], List, true, false, refl, ap, sym, length, length-append, map, take, arith}
 use Rattle.std.specs.List.{list_all}
 use Rattle.mt_lists.specs.Rows.{fields_left}
 use Rattle.mt_terms.specs.Registration.Ids.{Bytes, has_id, number_of}
-use Rattle.mt_ids.proofs.IdFacts.{found_id, missing_id}
+use Rattle.mt_ids.proofs.IdFacts.{found_id, found_below, missing_id}
 use Rattle.mt_id_lists.specs.Reading.{with_more}
 use Rattle.mt_id_lists.proofs.ListFacts.{length-with_last, with_more-begun}
-use Rattle.mt_numbered.proofs.PieceFacts.{take-none, take-first, piece_done, piece_unknown, piece_known, piece_more}
+use Rattle.mt_numbered.proofs.BatchFacts.{first_left, next_field}
+use Rattle.mt_numbered.proofs.PieceFacts.{piece_unknown, piece_known, piece_more}
 use Rattle.mt_numbered.proofs.pieces.PlaceReaderListReaderPieceUnit.read_list.Goals as goal
 
-pub loop-id-init : goal.loop-id-init
-loop-id-init g c =
-    let ids = c.args.self.now in
+pub loop-left-init : goal.loop-left-init
+loop-left-init g c =
     let piece = c.args.piece.now in
     let lists = c.args.lists.now in
-    let taken = take piece.count (fields_left piece.fields) in
-    let same : take piece.count (fields_left c.into_iter-id-iterator.result) ≡ taken =
-    ap (λ f. take piece.count (fields_left f)) c.into_iter-id-iterator.ensures.into_iter_gives in
+    let numbers = map (number_of c.args.self.now) (take piece.count (fields_left piece.fields)) in
     let begun = c.in_ok-begin.ensures.ok in
     record {
+      wide = refl;
+      room = refl;
       begun = omega (arith, ap length begun, length-append lists ([] ∷ []));
-      stands = ap (list_all (has_id ids)) same;
-      rest = ap (λ (l : List Bytes). with_more c.begin.new.self (map (number_of ids) l)) same
-          ∙ ap (λ (l : List (List ℕ)). with_more l (map (number_of ids) taken)) begun
-          ∙ with_more-begun lists (map (number_of ids) taken);
+      stands = refl;
+      rest = ap (λ (l : List (List ℕ)). with_more l numbers) begun ∙ with_more-begun lists numbers;
     }
 
-pub returns-then-left-eq0-clause-reads : goal.returns-then-left-eq0-clause-reads
-returns-then-left-eq0-clause-reads g c =
-    let fields = fields_left c.loop-id.id-iterator in
-    piece_done c.args.self.now (take c.loop-id.left fields) _ c.loop-id.lists _ (ap (λ (k : ℕ). take k fields) c.if-left-eq0.true) c.loop-id.invariant.stands
-    c.loop-id.invariant.rest
-
-pub returns-clause-reads : goal.returns-clause-reads
-returns-clause-reads g c =
-    let fields = fields_left c.loop-id.id-iterator in
-    piece_done c.args.self.now (take c.loop-id.left fields) _ c.loop-id.lists _ (take-none c.loop-id.left fields c.in-None.ensures.steps.0) c.loop-id.invariant.stands
-    c.loop-id.invariant.rest
+pub loop-i-init : goal.loop-i-init
+loop-i-init g c =
+    let ids = c.args.self.now in
+    let some = c.take_fields-count in
+    let same = first_left some.new.fields some.result c.loop-left.left (fields_left c.loop-left.rest) (fields_left some.new.rest) some.ensures.most
+        (omega (arith, some.ensures.few, c.if-count-eq0.array_long)) some.ensures.taken in
+    record {
+      begun = c.loop-left.invariant.begun;
+      stands = ap (list_all (has_id ids)) (sym same) ∙ c.loop-left.invariant.stands;
+      rest = ap (λ (l : List Bytes). with_more c.loop-left.lists (map (number_of ids) l)) (sym same) ∙ c.loop-left.invariant.rest;
+    }
 
 pub returns-in_default-clause-reads : goal.returns-in_default-clause-reads
 returns-in_default-clause-reads g c =
-    let ids = c.args.self.now in
-    let id = c.in-Some.id.now in
-    let missing : has_id ids id ≡ false = ap (λ (l : List Bytes). has_id l id) (sym c.self.view_is) ∙ missing_id c.self.inside.numbered.now.ids id c.in_default.ensures in
-    piece_unknown ids _ id _ (take-first c.loop-id.left _ id (fields_left c.next.new.self) c.in-Some.ensures.steps (omega (arith, c.if-left-eq0.false))) _ missing
-    c.loop-id.invariant.stands
+    let table = c.self.inside.numbered.now.ids in
+    let some = c.take_fields-count in
+    let next = next_field table some.new.fields c.find_places.new.places c.loop-i.i some.result (take (c.loop-left.left - some.result) (fields_left some.new.rest))
+        c.loop-i-test.true (omega (arith, some.ensures.few, c.if-count-eq0.array_long)) c.find_places.ensures in
+    let missing : has_id c.args.self.now next.field ≡ false = ap (λ (l : List Bytes). has_id l next.field) (sym c.self.view_is) ∙ missing_id table next.field (sym c.in_default.is ∙ next.found) in
+    piece_unknown c.args.self.now _ next.field _ next.steps _ missing c.loop-i.invariant.stands
 
-pub loop-id-preserved : goal.loop-id-preserved
-loop-id-preserved g c =
+pub overflow_cast-place : goal.overflow_cast-place
+overflow_cast-place g c =
+    let table = c.self.inside.numbered.now.ids in
+    let some = c.take_fields-count in
+    let next = next_field table some.new.fields c.find_places.new.places c.loop-i.i some.result (take (c.loop-left.left - some.result) (fields_left some.new.rest))
+        c.loop-i-test.true (omega (arith, some.ensures.few, c.if-count-eq0.array_long)) c.find_places.ensures in
+    omega (arith, found_below table next.field c.in-Some.place (sym c.in-Some.is ∙ next.found), c.self.invariant)
+
+pub loop-i-preserved : goal.loop-i-preserved
+loop-i-preserved g c =
     let ids = c.args.self.now in
-    let id = c.in-Some.id.now in
-    let at = found_id c.self.inside.numbered.now.ids id c.in-Some-place.place c.in-Some-place.ensures in
-    let known : has_id ids id ≡ true = ap (λ (l : List Bytes). has_id l id) (sym c.self.view_is) ∙ at.0 in
-    let place : number_of ids id ≡ c.in-Some-place.place = ap (λ (l : List Bytes). number_of l id) (sym c.self.view_is) ∙ at.1 in
-    let is = take-first c.loop-id.left _ id (fields_left c.next.new.self) c.in-Some.ensures.steps (omega (arith, c.if-left-eq0.false)) in
+    let table = c.self.inside.numbered.now.ids in
+    let place = c.in-Some.place in
+    let some = c.take_fields-count in
+    let next = next_field table some.new.fields c.find_places.new.places c.loop-i.i some.result (take (c.loop-left.left - some.result) (fields_left some.new.rest))
+        c.loop-i-test.true (omega (arith, some.ensures.few, c.if-count-eq0.array_long)) c.find_places.ensures in
+    let at = found_id table next.field place (sym c.in-Some.is ∙ next.found) in
+    let known : has_id ids next.field ≡ true = ap (λ (l : List Bytes). has_id l next.field) (sym c.self.view_is) ∙ at.0 in
+    let number : number_of ids next.field ≡ place = ap (λ (l : List Bytes). number_of l next.field) (sym c.self.view_is) ∙ at.1 in
     let grown = c.in_ok-push.ensures.ok in
     record {
-      begun = omega (arith, ap length grown, length-with_last c.loop-id.lists c.in-Some-place.place, c.loop-id.invariant.begun);
-      stands = piece_known ids _ id _ is _ known c.loop-id.invariant.stands;
-      rest = piece_more ids _ id _ is c.in-Some-place.place c.loop-id.lists c.push.new.self _ place grown c.loop-id.invariant.rest;
+      begun = omega (arith, ap length grown, length-with_last c.loop-i.lists place, c.loop-i.invariant.begun);
+      stands = piece_known ids _ next.field _ next.steps _ known c.loop-i.invariant.stands;
+      rest = piece_more ids _ next.field _ next.steps place c.loop-i.lists c.push.new.self _ number grown c.loop-i.invariant.rest;
     }
