@@ -15,7 +15,7 @@ CHECKS = {
     "cli PROGRAM": 8238,
     "cli": 8241,
     "controls": 53,
-    "edits_apply": 820,
+    "edits_apply": 826,
     "explain": 10098,
     "faults": 20037,
     "linear": 45,

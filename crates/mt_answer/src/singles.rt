@@ -14,8 +14,11 @@ use std::thread::Threads;
 /// one worker makes nearly all proposals, and the others wait.
 const PROGRAMS_FOR_EACH: u32 = 16;
 
-/// What workers make of the rank tables: this number of them, or as many as there are programs for. One worker has no
-/// need of locks, so a small market starts no thread.
+/// How many applicants there are for each worker, at least. One worker matches fewer sooner than another thread starts.
+const APPLICANTS_FOR_EACH: u32 = 128;
+
+/// What workers make of the rank tables: this number of them, or as many as there are programs and applicants for. One
+/// worker has no need of locks, so a small market starts no thread.
 fn made_by<T: Threads + Wait + Sync>(
     rt: &T,
     alloc: Global,
@@ -27,7 +30,9 @@ fn made_by<T: Threads + Wait + Sync>(
     ensures proposals { IfOk result (λ s. s.proposals.items
         ≡ map (proposals ranks.now.market s.matched.places) (below (length ranks.now.market.programs))) }
 {
-    let workers = workers.min(ranks.programs() / PROGRAMS_FOR_EACH);
+    let workers = workers
+        .min(ranks.programs() / PROGRAMS_FOR_EACH)
+        .min(ranks.applicants() / APPLICANTS_FOR_EACH);
     if workers <= 1 {
         work_alone(alloc, ranks)
     } else {

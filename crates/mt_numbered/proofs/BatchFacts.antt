@@ -27,29 +27,13 @@ fields-more fields count field left rest h is =
     ∙ ap (λ (l : List Bytes). l ++ rest) (sym (map-append (λ (f : Bor Bytes). f.now) (take count fields) (field ∷ [])))
     ∙ ap (λ (l : List (Bor Bytes)). map (λ (f : Bor Bytes). f.now) l ++ rest) (sym (take_more_set fields count field h))
 
-module _ (ids : List Bytes) (fields : List (Bor Bytes)) (places : List (Option ℕ)) (i : ℕ) (d : Bor Bytes) where
-  -- places with one more
-  pub places-more : (place : Option ℕ) → i < length fields → i < length places → place ≡ place_among ids (get_or fields i d).now
-      → take i places ≡ map (λ f. place_among ids f.now) (take i fields) → take (i + 1) (set places i place) ≡ map (λ f. place_among ids f.now) (take (i + 1) fields)
-  places-more place h k found is =
-      take_more_set places i place k
-      ∙ ap₂ (λ (l : List (Option ℕ)) (p : Option ℕ). l ++ p ∷ []) is found
-      ∙ sym (ap (map (λ (f : Bor Bytes). place_among ids f.now)) (take_more fields i d h) ∙ map-append (λ (f : Bor Bytes). place_among ids f.now) (take i fields) (get_or fields i d ∷ []))
-
-  module _ (count : ℕ) (h : i < count) (long : count ≤ length fields) where
-    -- the next of some fields
-    pub fields-next : (rest : List Bytes) → left_from i count fields rest ≡ (get_or fields i d).now ∷ left_from (i + 1) count fields rest
-    fields-next rest =
-        ap (λ (l : List (Bor Bytes)). map (λ (f : Bor Bytes). f.now) l ++ rest) (drop_more (take count fields) i d (omega (arith, h, length-take-le count fields long)))
-        ∙ ap (λ (f : Bor Bytes). f.now ∷ left_from (i + 1) count fields rest) (get_or-take count fields i d h)
-
-    -- the place of the next of some fields
-    pub places-next : (e : Option ℕ) → take count places ≡ map (λ f. place_among ids f.now) (take count fields) → get_or places i e ≡ place_among ids (get_or fields i d).now
-    places-next e is =
-        sym (get_or-take count places i e h)
-        ∙ ap (λ (l : List (Option ℕ)). get_or l i e) is
-        ∙ get_or-map (λ (f : Bor Bytes). place_among ids f.now) (take count fields) i d e (omega (arith, h, length-take-le count fields long))
-        ∙ ap (λ (f : Bor Bytes). place_among ids f.now) (get_or-take count fields i d h)
+-- places with one more
+pub places-more : (ids : List Bytes) (fields : List (Bor Bytes)) (places : List (Option ℕ)) (i : ℕ) (d : Bor Bytes) (place : Option ℕ) → i < length fields → i < length places
+    → place ≡ place_among ids (get_or fields i d).now → take i places ≡ map (λ f. place_among ids f.now) (take i fields) → take (i + 1) (set places i place) ≡ map (λ f. place_among ids f.now) (take (i + 1) fields)
+places-more ids fields places i d place h k found is =
+    take_more_set places i place k
+    ∙ ap₂ (λ (l : List (Option ℕ)) (p : Option ℕ). l ++ p ∷ []) is found
+    ∙ sym (ap (map (λ (f : Bor Bytes). place_among ids f.now)) (take_more fields i d h) ∙ map-append (λ (f : Bor Bytes). place_among ids f.now) (take i fields) (get_or fields i d ∷ []))
 
 -- The next of some fields that were looked up, and its place.
 pub record NextField (ids : List Bytes) (fields : List (Bor Bytes)) (places : List (Option ℕ)) (i count : ℕ) (rest : List Bytes) : Type 0 where
@@ -57,11 +41,19 @@ pub record NextField (ids : List Bytes) (fields : List (Bor Bytes)) (places : Li
   pub steps : left_from i count fields rest ≡ field ∷ left_from (i + 1) count fields rest
   pub found : get_or places i None ≡ place_among ids field
 
-pub next_field : (ids : List Bytes) (fields : List (Bor Bytes)) (places : List (Option ℕ)) (i count : ℕ) (rest : List Bytes) → i < count → count ≤ length fields
+pub next_field : {ids : List Bytes} {fields : List (Bor Bytes)} {places : List (Option ℕ)} {i count : ℕ} (rest : List Bytes) → i < count → count ≤ 16 → length fields ≡ 16
     → take (length (take count fields)) places ≡ map (λ f. place_among ids f.now) (take count fields) → NextField ids fields places i count rest
-next_field ids [] places i count rest h long is = absurd (omega (arith, h, long))
-next_field ids (f ∷ fs) places i count rest h long is = record {
-  field = (get_or (f ∷ fs) i f).now;
-  steps = fields-next ids (f ∷ fs) places i f count h long rest;
-  found = places-next ids (f ∷ fs) places i f count h long None (ap (λ (n : ℕ). take n places) (sym (length-take-le count (f ∷ fs) long)) ∙ is);
-}
+next_field {fields = []} rest h few wide is = absurd (omega (arith, wide))
+next_field {ids} {fields = f ∷ fs} {places} {i} {count} rest h few wide is =
+    let fields = f ∷ fs in
+    let long = length-take-le count fields (omega (arith, few, wide)) in
+    let at = get_or-take count fields i f h in record {
+      field = (get_or fields i f).now;
+      steps = ap (λ (l : List (Bor Bytes)). map (λ (f : Bor Bytes). f.now) l ++ rest) (drop_more (take count fields) i f (omega (arith, h, long)))
+          ∙ ap (λ (f : Bor Bytes). f.now ∷ left_from (i + 1) count fields rest) at;
+      found = sym (get_or-take count places i None h)
+          ∙ ap (λ (n : ℕ). get_or (take n places) i None) (sym long)
+          ∙ ap (λ (l : List (Option ℕ)). get_or l i None) is
+          ∙ get_or-map (λ (f : Bor Bytes). place_among ids f.now) (take count fields) i f None (omega (arith, h, long))
+          ∙ ap (λ (f : Bor Bytes). place_among ids f.now) at;
+    }

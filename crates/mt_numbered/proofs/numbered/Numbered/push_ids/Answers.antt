@@ -1,4 +1,4 @@
-use Rattle.std.proofs.Common.{◌≡◌, ◌+◌, Bool, true, List, refl, ap, sym, ◌∙◌, length, arith}
+use Rattle.std.proofs.Common.{◌+◌, Bool, true, List, refl, ap, sym, ◌∙◌, length, arith}
 use Rattle.std.proofs.lemmas.List.{length-set}
 use Rattle.mt_lists.specs.Rows.{fields_left}
 use Rattle.mt_ids.proofs.IdFacts.{found_id, found_below, missing_id}
@@ -9,8 +9,6 @@ use Rattle.mt_numbered.proofs.numbered.Numbered.push_ids.Goals as goal
 
 pub loop-rest-init : goal.loop-rest-init
 loop-rest-init g c = record {
-  wide = refl;
-  room = refl;
   long = refl;
   count = refl;
   stands = stands_from-once c.args.self.now.ids c.args.met.now (fields_left c.args.list) c.requires.len c.requires.none;
@@ -20,38 +18,31 @@ loop-rest-init g c = record {
 pub returns-in_default-clause-reads : goal.returns-in_default-clause-reads
 returns-in_default-clause-reads g c =
     let n = c.args.self.now in
-    let next = next_field n.ids c.take_fields-count.new.fields c.find_places.new.places c.loop-i.i c.take_fields-count.result (fields_left c.take_fields-count.new.rest)
-        c.loop-i-test.true (omega (arith, c.take_fields-count.ensures.few, c.if-count-eq0.array_long)) c.find_places.ensures in
+    let next = next_field (fields_left c.take_fields-count.new.rest) c.loop-i-test.true c.take_fields-count.ensures.few c.if-count-eq0.array_long c.find_places.ensures in
     sym c.loop-i.invariant.stands ∙ stands_from-missing n.ids c.loop-i.met _ next.field _ next.steps (missing_id n.ids next.field (sym c.in_default.is ∙ next.found))
 
 pub meet-requires : goal.meet-requires
 meet-requires g c =
-    let n = c.args.self.now in
-    let next = next_field n.ids c.take_fields-count.new.fields c.find_places.new.places c.loop-i.i c.take_fields-count.result (fields_left c.take_fields-count.new.rest)
-        c.loop-i-test.true (omega (arith, c.take_fields-count.ensures.few, c.if-count-eq0.array_long)) c.find_places.ensures in
-    omega (arith, found_below n.ids next.field c.in-Some.place (sym c.in-Some.is ∙ next.found), c.loop-i.invariant.long, c.requires.len)
+    let next = next_field (fields_left c.take_fields-count.new.rest) c.loop-i-test.true c.take_fields-count.ensures.few c.if-count-eq0.array_long c.find_places.ensures in
+    omega (arith, found_below c.args.self.now.ids next.field c.in-Some.place (sym c.in-Some.is ∙ next.found), c.loop-i.invariant.long, c.requires.len)
 
 pub returns-then-not-meet-clause-reads : goal.returns-then-not-meet-clause-reads
 returns-then-not-meet-clause-reads g c =
     let n = c.args.self.now in
-    let next = next_field n.ids c.take_fields-count.new.fields c.find_places.new.places c.loop-i.i c.take_fields-count.result (fields_left c.take_fields-count.new.rest)
-        c.loop-i-test.true (omega (arith, c.take_fields-count.ensures.few, c.if-count-eq0.array_long)) c.find_places.ensures in
+    let next = next_field (fields_left c.take_fields-count.new.rest) c.loop-i-test.true c.take_fields-count.ensures.few c.if-count-eq0.array_long c.find_places.ensures in
     let at = found_id n.ids next.field c.in-Some.place (sym c.in-Some.is ∙ next.found) in
     sym c.loop-i.invariant.stands ∙ stands_from-again n.ids c.loop-i.met _ next.field _ next.steps c.in-Some.place at.1 (sym c.meet.ensures.first ∙ c.if-not-meet.true)
 
 pub push_number-requires-clause-within : goal.push_number-requires-clause-within
 push_number-requires-clause-within g c =
-    let n = c.args.self.now in
-    let next = next_field n.ids c.take_fields-count.new.fields c.find_places.new.places c.loop-i.i c.take_fields-count.result (fields_left c.take_fields-count.new.rest)
-        c.loop-i-test.true (omega (arith, c.take_fields-count.ensures.few, c.if-count-eq0.array_long)) c.find_places.ensures in
-    found_below n.ids next.field c.in-Some.place (sym c.in-Some.is ∙ next.found)
+    let next = next_field (fields_left c.take_fields-count.new.rest) c.loop-i-test.true c.take_fields-count.ensures.few c.if-count-eq0.array_long c.find_places.ensures in
+    found_below c.args.self.now.ids next.field c.in-Some.place (sym c.in-Some.is ∙ next.found)
 
 pub loop-i-preserved : goal.loop-i-preserved
 loop-i-preserved g c =
     let n = c.args.self.now in
     let place = c.in-Some.place in
-    let next = next_field n.ids c.take_fields-count.new.fields c.find_places.new.places c.loop-i.i c.take_fields-count.result (fields_left c.take_fields-count.new.rest)
-        c.loop-i-test.true (omega (arith, c.take_fields-count.ensures.few, c.if-count-eq0.array_long)) c.find_places.ensures in
+    let next = next_field (fields_left c.take_fields-count.new.rest) c.loop-i-test.true c.take_fields-count.ensures.few c.if-count-eq0.array_long c.find_places.ensures in
     let at = found_id n.ids next.field place (sym c.in-Some.is ∙ next.found) in
     let left = left_from (c.loop-i.i + 1) c.take_fields-count.result c.take_fields-count.new.fields (fields_left c.take_fields-count.new.rest) in
     record {

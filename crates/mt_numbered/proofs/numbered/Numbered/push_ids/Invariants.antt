@@ -1,4 +1,4 @@
-use Rattle.std.proofs.Common.{◌≡◌, ◌++◌, drop, length, map, take}
+use Rattle.std.proofs.Common.{◌≡◌, length}
 use Rattle.mt_lists.specs.Rows.{fields_left}
 use Rattle.mt_terms.specs.Registration.Ids.{stands_once}
 use Rattle.mt_id_lists.specs.Numbering.{numbers_by}
@@ -9,8 +9,6 @@ use Rattle.mt_numbered.proofs.numbered.Numbered.push_ids.Given as goal
 
 abbrev pub invariant-loop-rest : goal.invariant-loop-rest
 invariant-loop-rest g l = record {
-  wide : length l.fields ≡ 16;
-  room : length l.places ≡ 16;
   long : length l.met ≡ length l.fn.met;
   count : length l.lists ≡ length l.fn.lists;
   stands : stands_from l.self.ids l.met (fields_left l.rest) ≡ stands_once l.self.ids (fields_left l.fn.list);

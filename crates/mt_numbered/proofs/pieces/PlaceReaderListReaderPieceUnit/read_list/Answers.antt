@@ -16,8 +16,6 @@ loop-left-init g c =
     let numbers = map (number_of c.args.self.now) (take piece.count (fields_left piece.fields)) in
     let begun = c.in_ok-begin.ensures.ok in
     record {
-      wide = refl;
-      room = refl;
       begun = omega (arith, ap length begun, length-append lists ([] ∷ []));
       stands = refl;
       rest = ap (λ (l : List (List ℕ)). with_more l numbers) begun ∙ with_more-begun lists numbers;
@@ -28,7 +26,7 @@ loop-i-init g c =
     let ids = c.args.self.now in
     let some = c.take_fields-count in
     let same = first_left some.new.fields some.result c.loop-left.left (fields_left c.loop-left.rest) (fields_left some.new.rest) some.ensures.most
-        (omega (arith, some.ensures.few, c.if-count-eq0.array_long)) some.ensures.taken in
+    (omega (arith, some.ensures.few, c.if-count-eq0.array_long)) some.ensures.taken in
     record {
       begun = c.loop-left.invariant.begun;
       stands = ap (list_all (has_id ids)) (sym same) ∙ c.loop-left.invariant.stands;
@@ -39,8 +37,7 @@ pub returns-in_default-clause-reads : goal.returns-in_default-clause-reads
 returns-in_default-clause-reads g c =
     let table = c.self.inside.numbered.now.ids in
     let some = c.take_fields-count in
-    let next = next_field table some.new.fields c.find_places.new.places c.loop-i.i some.result (take (c.loop-left.left - some.result) (fields_left some.new.rest))
-        c.loop-i-test.true (omega (arith, some.ensures.few, c.if-count-eq0.array_long)) c.find_places.ensures in
+    let next = next_field (take (c.loop-left.left - some.result) (fields_left some.new.rest)) c.loop-i-test.true some.ensures.few c.if-count-eq0.array_long c.find_places.ensures in
     let missing : has_id c.args.self.now next.field ≡ false = ap (λ (l : List Bytes). has_id l next.field) (sym c.self.view_is) ∙ missing_id table next.field (sym c.in_default.is ∙ next.found) in
     piece_unknown c.args.self.now _ next.field _ next.steps _ missing c.loop-i.invariant.stands
 
@@ -48,8 +45,7 @@ pub overflow_cast-place : goal.overflow_cast-place
 overflow_cast-place g c =
     let table = c.self.inside.numbered.now.ids in
     let some = c.take_fields-count in
-    let next = next_field table some.new.fields c.find_places.new.places c.loop-i.i some.result (take (c.loop-left.left - some.result) (fields_left some.new.rest))
-        c.loop-i-test.true (omega (arith, some.ensures.few, c.if-count-eq0.array_long)) c.find_places.ensures in
+    let next = next_field (take (c.loop-left.left - some.result) (fields_left some.new.rest)) c.loop-i-test.true some.ensures.few c.if-count-eq0.array_long c.find_places.ensures in
     omega (arith, found_below table next.field c.in-Some.place (sym c.in-Some.is ∙ next.found), c.self.invariant)
 
 pub loop-i-preserved : goal.loop-i-preserved
@@ -58,8 +54,7 @@ loop-i-preserved g c =
     let table = c.self.inside.numbered.now.ids in
     let place = c.in-Some.place in
     let some = c.take_fields-count in
-    let next = next_field table some.new.fields c.find_places.new.places c.loop-i.i some.result (take (c.loop-left.left - some.result) (fields_left some.new.rest))
-        c.loop-i-test.true (omega (arith, some.ensures.few, c.if-count-eq0.array_long)) c.find_places.ensures in
+    let next = next_field (take (c.loop-left.left - some.result) (fields_left some.new.rest)) c.loop-i-test.true some.ensures.few c.if-count-eq0.array_long c.find_places.ensures in
     let at = found_id table next.field place (sym c.in-Some.is ∙ next.found) in
     let known : has_id ids next.field ≡ true = ap (λ (l : List Bytes). has_id l next.field) (sym c.self.view_is) ∙ at.0 in
     let number : number_of ids next.field ≡ place = ap (λ (l : List Bytes). number_of l next.field) (sym c.self.view_is) ∙ at.1 in

@@ -9,8 +9,6 @@ use Rattle.mt_numbered.proofs.pieces.PlaceReaderListReaderPieceUnit.read_list.Gi
 
 abbrev pub invariant-loop-left : goal.invariant-loop-left
 invariant-loop-left g l = record {
-  wide : length l.fields ≡ 16;
-  room : length l.places ≡ 16;
   begun : 0 < length l.lists;
   stands : list_all (has_id l.self) (take l.left (fields_left l.rest)) ≡ piece_stands l.self l.piece;
   rest : with_more l.lists (map (number_of l.self) (take l.left (fields_left l.rest))) ≡ l.fn.lists ++ piece_read l.self l.piece;
